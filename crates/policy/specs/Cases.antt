@@ -1,0 +1,119 @@
+-- 01, "Examples on each side": every case marked P in one list, and the one statement that all of them hold.
+-- Lists are rule numbers. The catalogue of a case has eight rules unless it is written out. Assumes nothing.
+use Prim.Native.Nat.{ℕ, suc}
+use mathlib.Core.Path.{_≡_}
+use mathlib.Core.Bool.{Bool, true, false, cond, _&&_}
+use mathlib.Core.List.{List, [], _∷_, _++_, map}
+use mathlib.Core.Option.{Option, none, some}
+use lib.Dec.{eqb}
+use Rattle.policy.specs.Lists.{same}
+use Rattle.policy.specs.Rule.{Range, Rule}
+use Rattle.policy.specs.Policy.{decide, matching}
+use Rattle.policy.specs.Command.{Outcome, passed, failed, step, faultNumber, commandNumbers}
+use Rattle.policy.specs.AppendDelete.{keptRun, planOne}
+use Rattle.policy.specs.InsertDeleteMove.{keptTwo, planTwo}
+use Rattle.policy.specs.Judge.{verdict, verdictNumbers}
+use Rattle.policy.specs.declared.Action.{Action}
+use Rattle.policy.specs.declared.Action.the-variants.{Deny, Permit}
+use Rattle.policy.specs.declared.Command.{Command}
+use Rattle.policy.specs.declared.Command.the-variants.{App, DelRule, Ins, DelPlace, Mov}
+use Rattle.policy.specs.declared.Fault.{Fault}
+use Rattle.policy.specs.declared.Fault.the-variants.{Place}
+use Rattle.policy.specs.declared.Flow.{Flow}
+
+-- what a case says
+pub data Case : Type 0 where
+  -- initial, target: the rules kept and the script of type 1
+  append-delete : List ℕ → List ℕ → List ℕ → List Command → Case
+  -- initial, target, keep list: the rules kept and the script of type 2
+  insert-delete-move : List ℕ → List ℕ → Option (List ℕ) → List ℕ → List Command → Case
+  -- initial, target, script: the verdict's number and values
+  judge : List ℕ → List ℕ → List Command → List ℕ → Case
+  -- a running list, a command, what it gives
+  command : List ℕ → Command → Outcome → Case
+  -- a catalogue, a policy, a flow: the action and the place
+  decision : List Rule → List ℕ → Flow → Action → ℕ → Case
+
+unfoldable pub size : ℕ
+size = 8
+
+unfoldable pub sameScript : List Command → List Command → Bool
+sameScript [] [] = true
+sameScript [] (d ∷ t) = false
+sameScript (c ∷ s) [] = false
+sameScript (c ∷ s) (d ∷ t) = same (commandNumbers c) (commandNumbers d) && sameScript s t
+
+unfoldable pub sameOutcome : Outcome → Outcome → Bool
+sameOutcome (passed l) (passed m) = same l m
+sameOutcome (passed l) (failed g) = false
+sameOutcome (failed f) (passed m) = false
+sameOutcome (failed f) (failed g) = eqb (faultNumber f) (faultNumber g)
+
+unfoldable pub sameAction : Action → Action → Bool
+sameAction Deny Deny = true
+sameAction Deny Permit = false
+sameAction Permit Deny = false
+sameAction Permit Permit = true
+
+unfoldable pub holds : Case → Bool
+holds (append-delete initial target kept script) =
+    same (keptRun initial target) kept && sameScript (planOne initial target) script
+holds (insert-delete-move initial target keep kept script) =
+    same (keptTwo initial target keep) kept && sameScript (planTwo initial target keep) script
+holds (judge initial target script numbers) = same (verdictNumbers (verdict size initial target script)) numbers
+holds (command l c outcome) = sameOutcome (step size l c) outcome
+holds (decision catalogue policy flow action place) =
+    sameAction ((decide (matching catalogue flow) policy) .action) action
+    && eqb ((decide (matching catalogue flow) policy) .place) place
+
+-- the numbers of the cases that do not hold, counted from the given one
+unfoldable pub failing : ℕ → List Case → List ℕ
+failing n [] = []
+failing n (c ∷ cases) = cond (holds c) [] (n ∷ []) ++ failing (suc n) cases
+
+-- "permit, protocol 0 to 255, destination port 0 to 0, all else full"
+unfoldable pub port-zero : Rule
+port-zero =
+    record {
+      action = Permit;
+      protocol = record { low = 0; high = 255 };
+      source = record { low = 0; high = 4294967295 };
+      source-port = record { low = 0; high = 65535 };
+      destination = record { low = 0; high = 4294967295 };
+      destination-port = record { low = 0; high = 0 };
+    }
+
+-- "a flow of protocol 47 with ports 0"
+unfoldable pub tunnel : Flow
+tunnel = record { protocol = 47; source = 3232235777; «source_port» = 0; destination = 167772161; «destination_port» = 0 }
+
+-- the cases marked P, in the document's order; the given flow is "any flow"
+unfoldable pub cases : Flow → List Case
+cases any =
+    insert-delete-move (0 ∷ 1 ∷ 2 ∷ 3 ∷ []) (1 ∷ 0 ∷ 4 ∷ 3 ∷ []) none
+    (1 ∷ 3 ∷ []) (Ins 3 4 ∷ DelPlace 4 ∷ Mov 1 2 ∷ [])
+    ∷ append-delete (0 ∷ 1 ∷ 2 ∷ 3 ∷ []) (1 ∷ 0 ∷ 4 ∷ 3 ∷ [])
+    (1 ∷ []) (DelRule 3 ∷ DelRule 2 ∷ DelRule 0 ∷ App 0 ∷ App 4 ∷ App 3 ∷ [])
+    ∷ judge (0 ∷ 1 ∷ 2 ∷ 3 ∷ []) (1 ∷ 0 ∷ 4 ∷ 3 ∷ [])
+    (DelRule 3 ∷ DelRule 2 ∷ DelRule 0 ∷ App 0 ∷ App 4 ∷ App 3 ∷ []) (31 ∷ [])
+    ∷ insert-delete-move (0 ∷ 1 ∷ 2 ∷ []) (2 ∷ 0 ∷ 1 ∷ []) (some (0 ∷ 1 ∷ [])) (0 ∷ 1 ∷ []) (Mov 3 1 ∷ [])
+    ∷ insert-delete-move (0 ∷ 1 ∷ 2 ∷ []) (2 ∷ 0 ∷ 1 ∷ []) none (2 ∷ []) (Mov 2 3 ∷ Mov 1 2 ∷ [])
+    ∷ insert-delete-move (0 ∷ 1 ∷ []) (1 ∷ 0 ∷ []) (some []) [] (Mov 2 1 ∷ [])
+    ∷ append-delete (0 ∷ 1 ∷ 2 ∷ []) (0 ∷ 1 ∷ 2 ∷ []) (0 ∷ 1 ∷ 2 ∷ []) []
+    ∷ insert-delete-move (0 ∷ 1 ∷ 2 ∷ []) (0 ∷ 1 ∷ 2 ∷ []) none (0 ∷ 1 ∷ 2 ∷ []) []
+    ∷ judge (0 ∷ 1 ∷ 2 ∷ []) (0 ∷ 1 ∷ 2 ∷ []) [] (32 ∷ [])
+    ∷ append-delete [] [] [] []
+    ∷ insert-delete-move [] [] none [] []
+    ∷ judge [] [] [] (32 ∷ [])
+    ∷ judge (0 ∷ []) (1 ∷ []) (DelPlace 1 ∷ Ins 1 1 ∷ []) (31 ∷ [])
+    ∷ judge (0 ∷ 1 ∷ 2 ∷ 3 ∷ []) (1 ∷ 0 ∷ 2 ∷ 3 ∷ [])
+    (DelRule 1 ∷ App 1 ∷ DelRule 0 ∷ App 0 ∷ DelRule 2 ∷ App 2 ∷ DelRule 3 ∷ App 3 ∷ []) (30 ∷ 1 ∷ 2 ∷ [])
+    ∷ command (0 ∷ 1 ∷ []) (Mov 2 3) (failed Place)
+    ∷ command (0 ∷ 1 ∷ []) (Ins 3 2) (passed (0 ∷ 1 ∷ 2 ∷ []))
+    ∷ decision (port-zero ∷ []) [] any Deny 0
+    ∷ decision (port-zero ∷ []) (0 ∷ []) tunnel Permit 1
+    ∷ []
+
+-- "Cases marked P are proved of the definitions by a single statement over one list of cases": none fails, whatever the flow.
+abbrev pub Examples : Type 0
+Examples = (any : Flow) → failing 1 (cases any) ≡ []
