@@ -1,9 +1,9 @@
 -- Every case marked P in document 01 holds: antt computes both sides. Assumes nothing.
 use mathlib.Core.Path.{refl}
-use Rattle.policy.specs.Cases.{Examples, cases, failing, holds, size, sameScript, sameOutcome, sameAction, port-zero, tunnel}
+use Rattle.policy.specs.Cases.{Examples, cases, failing, holds, size, sameScript, sameOutcome, port-zero, tunnel}
 use Rattle.policy.specs.Lists.{all, pick, mem, contains, before, after, without, missing, same}
 use Rattle.policy.specs.Rule.{hits, says, matches, lies}
-use Rattle.policy.specs.Policy.{decide, decideFrom, matching}
+use Rattle.policy.specs.Policy.{decide, decideFrom, sameAction, matching}
 use Rattle.policy.specs.Command.{step, needs, within, ruleAt, lifted, placed, moved, faultNumber, commandNumbers}
 use Rattle.policy.specs.Replay.{replay, replayFrom, lists}
 use Rattle.policy.specs.AppendDelete.{keptRun, planOne}

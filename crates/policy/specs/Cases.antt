@@ -8,7 +8,7 @@ use mathlib.Core.Option.{Option, none, some}
 use lib.Dec.{eqb}
 use Rattle.policy.specs.Lists.{same}
 use Rattle.policy.specs.Rule.{Range, Rule}
-use Rattle.policy.specs.Policy.{decide, matching}
+use Rattle.policy.specs.Policy.{decide, sameAction, matching}
 use Rattle.policy.specs.Command.{Outcome, passed, failed, step, faultNumber, commandNumbers}
 use Rattle.policy.specs.AppendDelete.{keptRun, planOne}
 use Rattle.policy.specs.InsertDeleteMove.{keptTwo, planTwo}
@@ -48,12 +48,6 @@ sameOutcome (passed l) (passed m) = same l m
 sameOutcome (passed l) (failed g) = false
 sameOutcome (failed f) (passed m) = false
 sameOutcome (failed f) (failed g) = eqb (faultNumber f) (faultNumber g)
-
-unfoldable pub sameAction : Action → Action → Bool
-sameAction Deny Deny = true
-sameAction Deny Permit = false
-sameAction Permit Deny = false
-sameAction Permit Permit = true
 
 unfoldable pub holds : Case → Bool
 holds (append-delete initial target kept script) =

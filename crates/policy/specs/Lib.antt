@@ -8,3 +8,5 @@ pub mod AppendDelete
 pub mod InsertDeleteMove
 pub mod Judge
 pub mod Cases
+pub mod Properties
+pub mod Claims

@@ -1,10 +1,10 @@
 -- 01, "Flows, rules, lists": what a list decides. The match of rules and one flow, the actions of rules and the default action
 -- are given from outside, so that nothing here depends on ranges, ports or bytes. Assumes nothing.
 use Prim.Native.Nat.{ℕ, suc}
-use mathlib.Core.Bool.{Bool, cond}
+use mathlib.Core.Bool.{Bool, true, false, cond}
 use mathlib.Core.List.{List, [], _∷_}
 use Rattle.policy.specs.declared.Action.{Action}
-use Rattle.policy.specs.declared.Action.the-variants.{Deny}
+use Rattle.policy.specs.declared.Action.the-variants.{Deny, Permit}
 use Rattle.policy.specs.declared.Decision.{Decision}
 use Rattle.policy.specs.declared.Flow.{Flow}
 use Rattle.policy.specs.Rule.{Rule, hits, says}
@@ -27,6 +27,13 @@ decide m l = decideFrom m 1 l
 -- "Two lists decide a flow alike when the actions are equal; places are not compared."
 unfoldable pub decided : Matching → List ℕ → Action
 decided m l = (decide m l) .action
+
+-- whether two actions are equal
+unfoldable pub sameAction : Action → Action → Bool
+sameAction Deny Deny = true
+sameAction Deny Permit = false
+sameAction Permit Deny = false
+sameAction Permit Permit = true
 
 -- "if none does, it is denied": the matching of document 01, for a catalogue and a flow
 unfoldable pub matching : List Rule → Flow → Matching

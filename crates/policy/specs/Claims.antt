@@ -1,0 +1,249 @@
+-- What a customer buys: demands 2 and 3 about the definitions, sentence by sentence. Each claim is a statement; proofs/ has, for
+-- each, a proof of the same name in small letters with hyphens. A flow enters only through a `Matching`: any match of rules and the flow, any
+-- actions of the rules, any default. Assumes nothing.
+use Prim.Native.Nat.{ℕ, suc, _+_, _*_, _≤_, _<_}
+use mathlib.Core.Path.{_≡_}
+use mathlib.Core.Bool.{Bool, true, false, cond}
+use mathlib.Core.Logic.{_⊎_, _↔_, _≢_}
+use mathlib.Core.List.{List, [], _∷_, _++_, List·Memᴰ, Sublistᴰ}
+use mathlib.Core.Option.{Option, none, some}
+use lib.ListN.{length, getD}
+use Rattle.policy.specs.Lists.{common}
+use Rattle.policy.specs.Policy.{Matching, decided, sameAction, most-rules, most-listed}
+use Rattle.policy.specs.Command.{ofType}
+use Rattle.policy.specs.Replay.{ended, replay, lists}
+use Rattle.policy.specs.AppendDelete.{keptRun, planOne}
+use Rattle.policy.specs.InsertDeleteMove.{keptTwo, planTwo, movesInPlace}
+use Rattle.policy.specs.Judge.{verdict}
+use Rattle.policy.specs.Properties.{In, Distinct, Supported, Ordered, Full, Fails, Leads, After, StandsAt}
+use Rattle.policy.specs.declared.Command.{Command}
+use Rattle.policy.specs.declared.Command.the-variants.{Mov}
+use Rattle.policy.specs.declared.Fault.{Fault}
+use Rattle.policy.specs.declared.Verdict.the-variants.{Broken, Elsewhere, Unordered, NotFull, Safe}
+
+-- a policy that the reader accepts: its numbers are inside the catalogue (8), and no rule is named twice (9)
+pub record Policy (size : ℕ) (l : List ℕ) : Type 0 where
+  pub inside : (r : ℕ) → In r l → r < size
+  pub distinct : Distinct l
+
+-- a keep list that the reader accepts occurs in order in both policies (10); an absent one asks for the planner's own choice
+abbrev pub Keepable : List ℕ → List ℕ → Option (List ℕ) → Type 0
+Keepable initial target none = Unit {0}
+Keepable initial target (some keep) = Sublistᴰ keep initial × Sublistᴰ keep target
+
+-- two policies and a keep list that the reader accepts
+pub record Accepted (size : ℕ) (initial target : List ℕ) (keep : Option (List ℕ)) : Type 0 where
+  pub first : Policy size initial
+  pub last : Policy size target
+  pub keepable : Keepable initial target keep
+
+-- Decisions. A list that is ordered and full decides every flow as the initial policy or as the target does.
+abbrev pub OrderedAndFullDecidesAsOne : Type 0
+OrderedAndFullDecidesAsOne =
+    (m : Matching) (initial target l : List ℕ) → Distinct l → Ordered initial target l → Full initial target l
+    → (decided m l ≡ decided m initial) ⊎ (decided m l ≡ decided m target)
+
+-- A list that is ordered gives the default to every flow to which both policies give it: under default deny it permits no flow
+-- that both deny.
+abbrev pub OrderedKeepsTheDefault : Type 0
+OrderedKeepsTheDefault =
+    (m : Matching) (initial target l : List ℕ) → Distinct l → Ordered initial target l
+    → decided m initial ≡ m .default → decided m target ≡ m .default → decided m l ≡ m .default
+
+-- Replay. A script replays to a list exactly when each command in turn makes of the list what document 01 says of it ..
+abbrev pub ReplayIsLeads : Type 0
+ReplayIsLeads =
+    (size : ℕ) (initial l : List ℕ) (script : List Command) → (replay size initial script ≡ ended l) ↔ Leads size initial script l
+
+-- .. and the lists on the way are, in order, those after 0, 1, 2 .. commands.
+abbrev pub ListsAreAfter : Type 0
+ListsAreAfter =
+    (size : ℕ) (initial : List ℕ) (script : List Command) (k : ℕ) (l : List ℕ)
+    → After size initial script k l → (k < length (lists size initial script)) × (getD (lists size initial script) k [] ≡ l)
+
+-- Verdicts 20 to 23: the first command that fails, its number and its step.
+pub record BreaksAt (size : ℕ) (initial : List ℕ) (script : List Command) (fault : Fault) (at : ℕ) : Type 0 where
+  pub passed : List Command
+  pub failing : Command
+  pub others : List Command
+  pub running : List ℕ
+  pub is : script ≡ passed ++ (failing ∷ others)
+  pub counted : at ≡ suc (length passed)
+  pub leads : Leads size initial passed running
+  pub fails : Fails size running failing fault
+
+abbrev pub VerdictBroken : Type 0
+VerdictBroken =
+    (size : ℕ) (initial target : List ℕ) (script : List Command) (fault : Fault) (at : ℕ)
+    → (verdict size initial target script ≡ Broken fault at) ↔ BreaksAt size initial script fault at
+
+-- Verdict 24: all commands pass, and the last list isn't the target.
+abbrev pub VerdictElsewhere : Type 0
+VerdictElsewhere =
+    (size : ℕ) (initial target : List ℕ) (script : List Command) (n : ℕ)
+    → (verdict size initial target script ≡ Elsewhere n)
+    ↔ ((l : List ℕ) × (n ≡ length script) × Leads size initial script l × (l ≢ target))
+
+-- Verdict 30: the replay reaches the target; the step is the first list that isn't ordered, the place its first unsupported one.
+pub record FirstUnsupported (initial target l : List ℕ) (place : ℕ) : Type 0 where
+  pub rule : ℕ
+  pub stands : StandsAt l place rule
+  pub unsupported : ¬ Supported initial target l rule
+  pub first : (before r : ℕ) → before < place → StandsAt l before r → Supported initial target l r
+
+pub record FirstUnordered (size : ℕ) (initial target : List ℕ) (script : List Command) (at place : ℕ) : Type 0 where
+  pub running : List ℕ
+  pub after : After size initial script at running
+  pub unsupported : FirstUnsupported initial target running place
+  pub first : (k : ℕ) (l : List ℕ) → k < at → After size initial script k l → Ordered initial target l
+
+abbrev pub VerdictUnordered : Type 0
+VerdictUnordered =
+    (size : ℕ) (initial target : List ℕ) (script : List Command) (at place : ℕ) → Distinct initial → Distinct target
+    → (verdict size initial target script ≡ Unordered at place)
+    ↔ (Leads size initial script target × FirstUnordered size initial target script at place)
+
+-- every list on the way is ordered
+abbrev pub AllOrdered : ℕ → List ℕ → List ℕ → List Command → Type 0
+AllOrdered size initial target script = (k : ℕ) (l : List ℕ) → After size initial script k l → Ordered initial target l
+
+-- Verdict 31: the replay reaches the target, all lists are ordered, some list isn't full.
+abbrev pub VerdictNotFull : Type 0
+VerdictNotFull =
+    (size : ℕ) (initial target : List ℕ) (script : List Command) → Distinct initial → Distinct target
+    → (verdict size initial target script ≡ NotFull)
+    ↔ (Leads size initial script target
+    × AllOrdered size initial target script
+    × ((k : ℕ) × (l : List ℕ) × After size initial script k l × ¬ Full initial target l))
+
+-- Verdict 32: the replay reaches the target, and all lists are ordered and full.
+abbrev pub VerdictSafe : Type 0
+VerdictSafe =
+    (size : ℕ) (initial target : List ℕ) (script : List Command) → Distinct initial → Distinct target
+    → (verdict size initial target script ≡ Safe)
+    ↔ (Leads size initial script target
+    × AllOrdered size initial target script
+    × ((k : ℕ) (l : List ℕ) → After size initial script k l → Full initial target l))
+
+-- A safe script: every list on its way decides every flow as one of the two policies does.
+abbrev pub SafeDecidesAsOne : Type 0
+SafeDecidesAsOne =
+    (size : ℕ) (initial target : List ℕ) (script : List Command) → Distinct initial → Distinct target
+    → verdict size initial target script ≡ Safe
+    → (m : Matching) (k : ℕ) (l : List ℕ) → After size initial script k l
+    → (decided m l ≡ decided m initial) ⊎ (decided m l ≡ decided m target)
+
+-- every list on the way gives the default to each flow to which both policies give it: with default deny, "no flow that both
+-- policies deny is ever permitted"
+abbrev pub KeepsTheDefault : ℕ → List ℕ → List ℕ → List Command → Type 0
+KeepsTheDefault size initial target script =
+    (m : Matching) → decided m initial ≡ m .default → decided m target ≡ m .default
+    → (k : ℕ) (l : List ℕ) → After size initial script k l → decided m l ≡ m .default
+
+abbrev pub NotFullKeepsTheDefault : Type 0
+NotFullKeepsTheDefault =
+    (size : ℕ) (initial target : List ℕ) (script : List Command) → Distinct initial → Distinct target
+    → verdict size initial target script ≡ NotFull → KeepsTheDefault size initial target script
+
+-- Append and delete. What is kept is a front part of the target, occurs in order in the initial policy, and is the longest that does.
+abbrev pub KeptRunIsLongest : Type 0
+KeptRunIsLongest =
+    (initial target : List ℕ)
+    → ((rest : List ℕ) × (target ≡ keptRun initial target ++ rest))
+    × Sublistᴰ (keptRun initial target) initial
+    × ((run rest : List ℕ) → target ≡ run ++ rest → Sublistᴰ run initial → length run ≤ length (keptRun initial target))
+
+-- The script is of type 1, replays without a refusal and ends at the target.
+abbrev pub PlanOneReaches : Type 0
+PlanOneReaches =
+    (size : ℕ) (initial target : List ℕ) → Policy size initial → Policy size target
+    → (ofType 1 (planOne initial target) ≡ true) × Leads size initial (planOne initial target) target
+
+-- "The count is initial + target − 2 × kept"
+abbrev pub PlanOneCount : Type 0
+PlanOneCount =
+    (initial target : List ℕ) → Distinct initial
+    → length (planOne initial target) + 2 * length (keptRun initial target) ≡ length initial + length target
+
+-- "no type 1 sequence in which every command succeeds and whose last list is the target is shorter"
+abbrev pub PlanOneFewest : Type 0
+PlanOneFewest =
+    (size : ℕ) (initial target : List ℕ) (script : List Command) → Distinct initial
+    → ofType 1 script ≡ true → Leads size initial script target → length (planOne initial target) ≤ length script
+
+-- "every script of the type 1 planner gets 31 or 32"
+abbrev pub PlanOneVerdict : Type 0
+PlanOneVerdict =
+    (size : ℕ) (initial target : List ℕ) → Policy size initial → Policy size target
+    → (verdict size initial target (planOne initial target) ≡ NotFull) ⊎ (verdict size initial target (planOne initial target) ≡ Safe)
+
+-- On its way it permits no flow that both lists deny (default deny).
+abbrev pub PlanOneKeepsTheDefault : Type 0
+PlanOneKeepsTheDefault =
+    (size : ℕ) (initial target : List ℕ) → Policy size initial → Policy size target
+    → KeepsTheDefault size initial target (planOne initial target)
+
+-- Insert, delete and move. The script is of type 2, replays without a refusal and ends at the target.
+abbrev pub PlanTwoReaches : Type 0
+PlanTwoReaches =
+    (size : ℕ) (initial target : List ℕ) (keep : Option (List ℕ)) → Accepted size initial target keep
+    → (ofType 2 (planTwo initial target keep) ≡ true) × Leads size initial (planTwo initial target keep) target
+
+-- "The count is initial + target − common − kept, less the moves found already in place."
+abbrev pub PlanTwoCount : Type 0
+PlanTwoCount =
+    (size : ℕ) (initial target : List ℕ) (keep : Option (List ℕ)) → Accepted size initial target keep
+    → length (planTwo initial target keep)
+    + (movesInPlace initial target keep + (length (common initial target) + length (keptTwo initial target keep)))
+    ≡ length initial + length target
+
+-- It never sends a move that changes nothing.
+abbrev pub PlanTwoMoves : Type 0
+PlanTwoMoves =
+    (size : ℕ) (initial target : List ℕ) (keep : Option (List ℕ)) → Accepted size initial target keep
+    → (i j : ℕ) → List·Memᴰ (Mov i j) (planTwo initial target keep) → i ≢ j
+
+-- "Every script of the type 2 planner gets 32"
+abbrev pub PlanTwoVerdict : Type 0
+PlanTwoVerdict =
+    (size : ℕ) (initial target : List ℕ) (keep : Option (List ℕ)) → Accepted size initial target keep
+    → verdict size initial target (planTwo initial target keep) ≡ Safe
+
+-- the first list, counted from 0, that decides the flow as the target does
+unfoldable pub changePoint : Matching → List ℕ → List (List ℕ) → ℕ
+changePoint m target [] = 0
+changePoint m target (l ∷ way) = cond (sameAction (decided m l) (decided m target)) 0 (suc (changePoint m target way))
+
+-- Demand 3: "each flow has a point in the script before which every list decides it as the initial list does, and from which every
+-- list decides it as the target does". The point, a number of commands, is the first list that decides as the target; it is 0
+-- where the two policies agree.
+pub record ChangesOnce (m : Matching) (size : ℕ) (initial target : List ℕ) (script : List Command) (point : ℕ) : Type 0 where
+  pub within : point ≤ length script
+  pub before : (k : ℕ) (l : List ℕ) → k < point → After size initial script k l → decided m l ≡ decided m initial
+  pub from : (k : ℕ) (l : List ℕ) → point ≤ k → After size initial script k l → decided m l ≡ decided m target
+  pub agreed : decided m initial ≡ decided m target → point ≡ 0
+
+abbrev pub PlanTwoChangesOnce : Type 0
+PlanTwoChangesOnce =
+    (m : Matching) (size : ℕ) (initial target : List ℕ) (keep : Option (List ℕ)) → Accepted size initial target keep
+    → ChangesOnce m size initial target (planTwo initial target keep)
+    (changePoint m target (lists size initial (planTwo initial target keep)))
+
+-- "I = T: no command of either type", "verdict 32"
+abbrev pub NothingToDo : Type 0
+NothingToDo =
+    (size : ℕ) (initial : List ℕ) → Distinct initial
+    → (planOne initial initial ≡ []) × (planTwo initial initial none ≡ []) × (verdict size initial initial [] ≡ Safe)
+
+-- Numbers. "A running list never exceeds 1,024, since its rules differ."
+abbrev pub RunningListFits : Type 0
+RunningListFits =
+    (size : ℕ) (initial : List ℕ) (script : List Command) (k : ℕ) (l : List ℕ) → size ≤ most-rules → Policy size initial
+    → After size initial script k l → length l ≤ most-rules
+
+-- A planned script of either type has at most 1,024 commands, and so fits a script field.
+abbrev pub PlansFit : Type 0
+PlansFit =
+    (size : ℕ) (initial target : List ℕ) (keep : Option (List ℕ)) → Accepted size initial target keep
+    → length initial ≤ most-listed → length target ≤ most-listed
+    → (length (planOne initial target) ≤ 1024) × (length (planTwo initial target keep) ≤ 1024)
