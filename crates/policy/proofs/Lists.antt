@@ -5,10 +5,26 @@ use mathlib.Core.Path.{_≡_, refl, sym, _∙_, ap, subst}
 use mathlib.Core.Bool.{Bool, true, false, cond, not, _&&_, _||_}
 use mathlib.Core.Logic.{_⊎_, inl, inr, ⊎-elim}
 use mathlib.Core.List.{
-  List, [], _∷_, _++_, append-assoc,
-  List·Memᴰ, List·Memᴰ·head, List·Memᴰ·tail, Memᴰ·cast, Memᴰ·append-left, Memᴰ·append-right, List·Memᴰ·append-cases,
-  List·Memᴰ·cases-cons, List·Memᴰ·not-nil,
-  Sublistᴰ, Sublistᴰ·slnil, Sublistᴰ·cons, Sublistᴰ·cons-cons, Sublistᴰ·nil-sublist, Sublistᴰ·cases-cons-cons
+  List,
+  [],
+  _∷_,
+  _++_,
+  append-assoc,
+  List·Memᴰ,
+  List·Memᴰ·head,
+  List·Memᴰ·tail,
+  Memᴰ·cast,
+  Memᴰ·append-left,
+  Memᴰ·append-right,
+  List·Memᴰ·append-cases,
+  List·Memᴰ·cases-cons,
+  List·Memᴰ·not-nil,
+  Sublistᴰ,
+  Sublistᴰ·slnil,
+  Sublistᴰ·cons,
+  Sublistᴰ·cons-cons,
+  Sublistᴰ·nil-sublist,
+  Sublistᴰ·cases-cons-cons,
 }
 use borrow.Author.Tests.{eqb-true, eqb-false, eq-eqb, ne-eqb}
 use lib.Dec.{eqb}
