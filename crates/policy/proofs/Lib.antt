@@ -1,4 +1,5 @@
 pub mod Tests
 pub mod Lists
 pub mod Order
+pub mod Way
 pub mod Examples
