@@ -3,3 +3,4 @@ pub mod Lists
 pub mod Order
 pub mod Way
 pub mod Examples
+pub mod Traps

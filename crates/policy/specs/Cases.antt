@@ -9,7 +9,7 @@ use lib.Dec.{eqb}
 use Rattle.policy.specs.Lists.{same}
 use Rattle.policy.specs.Rule.{Range, Rule}
 use Rattle.policy.specs.Policy.{decide, sameAction, matching}
-use Rattle.policy.specs.Command.{Outcome, passed, failed, step, faultNumber, commandNumbers}
+use Rattle.policy.specs.Command.{Outcome, passed, failed, step, faultNumber, Coded, coded}
 use Rattle.policy.specs.AppendDelete.{keptRun, planOne}
 use Rattle.policy.specs.InsertDeleteMove.{keptTwo, planTwo}
 use Rattle.policy.specs.Judge.{verdict, verdictNumbers}
@@ -37,11 +37,14 @@ pub data Case : Type 0 where
 unfoldable pub size : ℕ
 size = 8
 
+unfoldable pub sameCoded : Coded → Coded → Bool
+sameCoded a b = eqb (a .code) (b .code) && eqb (a .one) (b .one) && eqb (a .two) (b .two)
+
 unfoldable pub sameScript : List Command → List Command → Bool
 sameScript [] [] = true
 sameScript [] (d ∷ t) = false
 sameScript (c ∷ s) [] = false
-sameScript (c ∷ s) (d ∷ t) = same (commandNumbers c) (commandNumbers d) && sameScript s t
+sameScript (c ∷ s) (d ∷ t) = sameCoded (coded c) (coded d) && sameScript s t
 
 unfoldable pub sameOutcome : Outcome → Outcome → Bool
 sameOutcome (passed l) (passed m) = same l m

@@ -58,13 +58,19 @@ faultNumber Absent = 21
 faultNumber Place = 22
 faultNumber Number = 23
 
--- "The deployment file": the code of each command and its two numbers; "a number that a command doesn't use is 0"
-unfoldable pub commandNumbers : Command → List ℕ
-commandNumbers (App r) = 1 ∷ r ∷ 0 ∷ []
-commandNumbers (DelRule r) = 2 ∷ r ∷ 0 ∷ []
-commandNumbers (Ins i r) = 3 ∷ i ∷ r ∷ []
-commandNumbers (DelPlace i) = 4 ∷ i ∷ 0 ∷ []
-commandNumbers (Mov i j) = 5 ∷ i ∷ j ∷ []
+-- "A command is one code byte and two two-byte numbers"
+pub record Coded : Type 0 where
+  pub code : ℕ
+  pub one : ℕ
+  pub two : ℕ
+
+-- "code 1 `app r`, code 2 `del r` .. code 3 `ins i r`, code 4 `del i`, code 5 `mov i j`"; "a number that a command doesn't use is 0"
+unfoldable pub coded : Command → Coded
+coded (App r) = record { code = 1; one = r; two = 0 }
+coded (DelRule r) = record { code = 2; one = r; two = 0 }
+coded (Ins i r) = record { code = 3; one = i; two = r }
+coded (DelPlace i) = record { code = 4; one = i; two = 0 }
+coded (Mov i j) = record { code = 5; one = i; two = j }
 
 -- "Type 1: code 1 .., code 2 ... Type 2: code 3 .., code 4 .., code 5 ..": the type of script that a command stands in
 unfoldable pub commandType : Command → ℕ

@@ -10,3 +10,4 @@ pub mod Judge
 pub mod Cases
 pub mod Properties
 pub mod Claims
+pub mod Traps
