@@ -18,13 +18,23 @@ use Rattle.policy.specs.Lists.{mem}
 use Rattle.policy.specs.Properties.{In, Distinct, Precedes}
 use Rattle.policy.proofs.Order.{distinct-around}
 use Rattle.policy.specs.Traps.{
-  KeepsCommon, KeepsPairs, hitting, permits, sixth, CommonAndPairsAreNotEnough, denies-but-one, PairsLeaveHoles, movedEarly,
-  CountingEarlyIsWrong, out-and-in, EndsAreNotEnough
+  KeepsCommon,
+  KeepsPairs,
+  hitting,
+  permits,
+  sixth,
+  CommonAndPairsAreNotEnough,
+  denies-but-one,
+  PairsLeaveHoles,
+  movedEarly,
+  CountingEarlyIsWrong,
+  out-and-in,
+  EndsAreNotEnough,
 }
 
 -- a rule precedes itself in no policy of a pair that the condition speaks of
 no-pair : (initial target l : List ℕ) (a b : ℕ) → a ≡ b → Precedes a b initial ⊎ Precedes a b target
-  → ¬ Precedes b a initial → ¬ Precedes b a target → Precedes a b l
+    → ¬ Precedes b a initial → ¬ Precedes b a target → Precedes a b l
 no-pair initial target l a b e p n k = absurd (⊎-elim (λ q. (rw e at n) (rw e at q)) (λ q. (rw e at k) (rw e at q)) p)
 
 single-pairs : (initial target : List ℕ) (x : ℕ) → KeepsPairs initial target (x ∷ [])
@@ -39,19 +49,18 @@ single-common x y l n w =
 pub common-and-pairs-are-not-enough : CommonAndPairsAreNotEnough
 unfolding lists step needs within lifted placed mem decided decide decideFrom hitting permits
 common-and-pairs-are-not-enough =
-    let unlike : _≢_ {A = ℕ} 0 1 = omega arith in
-    (
+    let unlike : _≢_ {A = ℕ} 0 1 = omega arith in (
       λ l h. elim (List·Memᴰ·cases-cons h) [
-        inl e ↦ rw e (single-common 0 1 (0 ∷ []) unlike (λ r k. inl k), single-pairs (0 ∷ []) (1 ∷ []) 0)
-      | inr t ↦ elim (List·Memᴰ·cases-cons t) [
-          inl e ↦ rw e (single-common 0 1 [] unlike (λ r k. absurd (List·Memᴰ·not-nil k)), λ a b p n k g. absurd (List·Memᴰ·not-nil g))
-        | inr u ↦ rw (List·Memᴰ·eq-of-singleton u) (single-common 0 1 (1 ∷ []) unlike (λ r k. inr k), single-pairs (0 ∷ []) (1 ∷ []) 1)
+        | inl e ↦ rw e (single-common 0 1 (0 ∷ []) unlike (λ r k. inl k), single-pairs (0 ∷ []) (1 ∷ []) 0)
+        | inr t ↦ elim (List·Memᴰ·cases-cons t) [
+          | inl e ↦ rw e (single-common 0 1 [] unlike (λ r k. absurd (List·Memᴰ·not-nil k)), λ a b p n k g. absurd (List·Memᴰ·not-nil g))
+          | inr u ↦ rw (List·Memᴰ·eq-of-singleton u) (single-common 0 1 (1 ∷ []) unlike (λ r k. inr k), single-pairs (0 ∷ []) (1 ∷ []) 1)
         ]
       ],
       List·Memᴰ·tail (List·Memᴰ·head refl),
       refl,
       refl,
-      refl
+      refl,
     )
 
 pub pairs-leave-holes : PairsLeaveHoles
@@ -69,7 +78,7 @@ two-places x k l n h e =
     let early : getD (take k l ++ (x ∷ drop k l)) k 0 ≡ x = getD-at (take k l) x (drop k l) 0 k (length-take-le k l (omega arith)) in
     let long : length (take (suc k) l) ≡ suc k = length-take-le (suc k) l h in
     let late : getD (take (suc k) l ++ (x ∷ drop (suc k) l)) k 0 ≡ getD l k 0 =
-      List·getD-append (take (suc k) l) (x ∷ drop (suc k) l) 0 k (omega arith) ∙ getD-take (suc k) l k 0 (omega arith) in
+    List·getD-append (take (suc k) l) (x ∷ drop (suc k) l) 0 k (omega arith) ∙ getD-take (suc k) l k 0 (omega arith) in
     n (Memᴰ·cast (sym early ∙ ap (λ (m : List ℕ). getD m k 0) e ∙ late) (getD-in l k h))
 
 pub counting-early-is-wrong : CountingEarlyIsWrong
@@ -85,7 +94,7 @@ counting-early-is-wrong (suc i) (suc (suc j)) l d p q b =
     let to : suc (suc j) - 1 ≡ suc j = omega arith in
     let early : suc j - 1 ≡ j = omega arith in
     let long : j < length (take i l ++ drop (suc i) l) =
-      omega (arith, b, q, length-append (take i l) (drop (suc i) l), length-take-le i l (omega arith), length-drop (suc i) l) in
+    omega (arith, b, q, length-append (take i l) (drop (suc i) l), length-take-le i l (omega arith), length-drop (suc i) l) in
     rw (test, from, to, early) (two-places (getD l i 0) j (take i l ++ drop (suc i) l) (gone .0) long)
 
 pub ends-are-not-enough : EndsAreNotEnough

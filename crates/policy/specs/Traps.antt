@@ -40,8 +40,8 @@ sixth = DelPlace 1 ∷ Ins 1 1 ∷ []
 abbrev pub CommonAndPairsAreNotEnough : Type 0
 CommonAndPairsAreNotEnough =
     (
-      (l : List ℕ) → List·Memᴰ l (lists 8 (0 ∷ []) sixth)
-      → KeepsCommon (0 ∷ []) (1 ∷ []) l × KeepsPairs (0 ∷ []) (1 ∷ []) l
+    (l : List ℕ) → List·Memᴰ l (lists 8 (0 ∷ []) sixth)
+    → KeepsCommon (0 ∷ []) (1 ∷ []) l × KeepsPairs (0 ∷ []) (1 ∷ []) l
     )
     × List·Memᴰ [] (lists 8 (0 ∷ []) sixth)
     × (decided (hitting permits) (0 ∷ []) ≡ Permit)

@@ -1,0 +1,54 @@
+-- 01, "Turned away": the numbers, and tests that are made one after another, the earlier winning. Assumes nothing.
+use Prim.Native.Nat.{ℕ}
+use mathlib.Core.Bool.{Bool, true, false}
+use Rattle.deployment.specs.declared.Why.{Why}
+use Rattle.deployment.specs.declared.Why.the-variants.{
+  Cut,
+  Tag,
+  NoTarget,
+  Length,
+  Bounds,
+  Equal,
+  TooMany,
+  Outside,
+  Twice,
+  Keep,
+  Coding,
+  NoScript,
+  Room,
+}
+
+-- the table's first column
+unfoldable pub whyNumber : Why → ℕ
+whyNumber Cut = 1
+whyNumber Tag = 2
+whyNumber NoTarget = 3
+whyNumber Length = 4
+whyNumber Bounds = 5
+whyNumber Equal = 6
+whyNumber TooMany = 7
+whyNumber Outside = 8
+whyNumber Twice = 9
+whyNumber Keep = 10
+whyNumber Coding = 11
+whyNumber NoScript = 12
+whyNumber Room = 13
+
+-- what a test or a run of tests gives: a value, or why it is turned away
+pub data Checked (A : Type 0) : Type 0 where
+  good : A → Checked A
+  bad : Why → Checked A
+
+-- one after another: the first that turns away decides
+abbrev pub _>>=_ : {A B : Type 0} → Checked A → (A → Checked B) → Checked B
+_>>=_ (good a) next = next a
+_>>=_ (bad why) next = bad why
+
+abbrev pub _>>_ : {B : Type 0} → Checked (Unit {0}) → Checked B → Checked B
+_>>_ (good a) next = next
+_>>_ (bad why) next = bad why
+
+-- a test that must pass, and the case that is named where it does not
+abbrev pub require : Bool → Why → Checked (Unit {0})
+require true why = good tt
+require false why = bad why

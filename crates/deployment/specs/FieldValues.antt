@@ -1,0 +1,102 @@
+-- 01, "Turned away": entries that take lists take field values; what callers lend, and what is written there. Assumes nothing.
+use Prim.Native.Nat.{ℕ, _*_, _/_, _%_}
+use mathlib.Core.Bool.{Bool, true, false, cond}
+use mathlib.Core.List.{List, [], _∷_, _++_}
+use mathlib.Core.Option.{Option, none, some}
+use lib.ListN.{length, drop}
+use lib.Dec.{eqb, leb}
+use Rattle.policy.specs.Policy.{most-rules}
+use Rattle.policy.specs.Rule.{Rule}
+use Rattle.deployment.specs.Checked.{Checked, good, bad, _>>=_, _>>_, require}
+use Rattle.deployment.specs.Bytes.{chunks}
+use Rattle.deployment.specs.Values.{Script, rule-bytes, listFits, scriptFits}
+use Rattle.deployment.specs.Contents.{Contents, ruleRead, policyRead, keepRead, scriptRead}
+use Rattle.deployment.specs.File.{Reading, accepted, refused}
+use Rattle.deployment.specs.declared.Why.{Why}
+use Rattle.deployment.specs.declared.Why.the-variants.{Length, TooMany, Room}
+use Rattle.deployment.specs.declared.Refusal.{Refusal}
+
+-- "Entries that take lists take field values, and are told whether a keep list is absent or empty"
+pub record FieldValues : Type 0 where
+  pub rules : List ℕ
+  pub initial : List ℕ
+  pub target : List ℕ
+  pub keep : Option (List ℕ)
+  pub script : Option (List ℕ)
+
+-- "5 and 6 rule by rule"
+unfoldable pub rulesRead : List Rule → List (List ℕ) → Checked (List Rule)
+rulesRead catalogue [] = good catalogue
+rulesRead catalogue (value ∷ others) = do
+  rule ← ruleRead catalogue value
+  rulesRead (catalogue ++ (rule ∷ [])) others
+
+-- "4 for rules not of 27 bytes each, 7, then 5 and 6"
+unfoldable pub catalogueValue : List ℕ → Checked (List Rule)
+catalogueValue value = do
+  require (eqb (length value % rule-bytes) 0) Length
+  require (leb (length value) (rule-bytes * most-rules)) TooMany
+  rulesRead [] (chunks rule-bytes (length value / rule-bytes) value)
+
+-- "then 4, 8, 9 for the initial policy and again for the target"
+unfoldable pub policyValue : ℕ → List ℕ → Checked (List ℕ)
+policyValue size value = do
+  require (listFits (length value)) Length
+  policyRead size value
+
+-- "then 4, 10 for the keep list"
+unfoldable pub keepValue : List ℕ → List ℕ → Option (List ℕ) → Checked (Option (List ℕ))
+keepValue initial target none = good none
+keepValue initial target (some value) = do
+  require (listFits (length value)) Length
+  keep ← keepRead initial target value
+  good (some keep)
+
+-- "4, 11 for the script"
+unfoldable pub scriptValue : Option (List ℕ) → Checked (Option Script)
+scriptValue none = good none
+scriptValue (some value) = do
+  require (scriptFits (length value)) Length
+  script ← scriptRead value
+  good (some script)
+
+unfoldable pub valuesRead : FieldValues → Checked Contents
+valuesRead v = do
+  catalogue ← catalogueValue (v .rules)
+  initial ← policyValue (length catalogue) (v .initial)
+  target ← policyValue (length catalogue) (v .target)
+  keep ← keepValue initial target (v .keep)
+  script ← scriptValue (v .script)
+  good (record { catalogue = catalogue; initial = initial; target = target; keep = keep; script = script })
+
+-- "all at position 0"
+unfoldable pub atZero : Checked Contents → Reading
+atZero (good contents) = accepted contents
+atZero (bad why) = refused (record { why = why; at = 0 })
+
+unfoldable pub readValues : FieldValues → Reading
+readValues v = atZero (valuesRead v)
+
+-- "on success the output fills the first bytes and the rest keep theirs"
+unfoldable pub filled : List ℕ → List ℕ → List ℕ
+filled place output = output ++ drop (length output) place
+
+-- what an entry that writes leaves: how many bytes it wrote, or the refusal; and every byte of the place
+pub data Wrote : Type 0 where
+  wrote : ℕ → Wrote
+  turned : Refusal → Wrote
+
+pub record Writing : Type 0 where
+  pub answer : Wrote
+  pub place : List ℕ
+
+-- "When turned away, every lent place keeps its bytes"
+unfoldable pub unwritten : Refusal → List ℕ → Writing
+unwritten refusal place = record { answer = turned refusal; place = place }
+
+-- "and last 13": "lent room smaller than what is to be written", at the bytes needed
+unfoldable pub writing : List ℕ → List ℕ → Writing
+writing output place =
+    cond (leb (length output) (length place))
+    (record { answer = wrote (length output); place = filled place output })
+    (unwritten (record { why = Room; at = length output }) place)

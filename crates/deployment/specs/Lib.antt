@@ -1,0 +1,7 @@
+-- The bytes of document 01. Read in this order.
+pub mod Checked
+pub mod Bytes
+pub mod Values
+pub mod Contents
+pub mod File
+pub mod FieldValues

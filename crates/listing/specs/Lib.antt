@@ -1,0 +1,2 @@
+-- The text of document 01's two programs.
+pub mod Text
