@@ -2,5 +2,9 @@ pub mod Tests
 pub mod Lists
 pub mod Order
 pub mod Way
+pub mod Decisions
+pub mod Once
+pub mod AppendDelete
+pub mod Fewest
 pub mod Examples
 pub mod Traps

@@ -1,0 +1,290 @@
+-- The script for append and delete: what it keeps, where it leads, how many commands it has. The idea: a front part of a policy
+-- that occurs in order in the running list is supported there. While the script deletes, the list is a front part of the initial
+-- policy and then kept rules; while it appends, it is a front part of the target. Assumes nothing.
+use Prim.Native.Nat.{ℕ, _≤_, zero-le, suc-le-suc}
+use native.Mathlib.Omega.{arith}
+use mathlib.Core.Path.{_≡_, refl, sym, _∙_, ap, subst}
+use mathlib.Core.Bool.{Bool, true, false, not}
+use mathlib.Core.Logic.{inl, inr, ⊎-elim}
+use mathlib.Core.List.{
+  List,
+  [],
+  _∷_,
+  _++_,
+  map,
+  reverse,
+  reverseAux-eq,
+  map-append,
+  append-nil,
+  append-assoc,
+  List·Memᴰ·head,
+  List·Memᴰ·tail,
+  Memᴰ·cast,
+  Memᴰ·append-left,
+  List·Memᴰ·append-cases,
+  List·Memᴰ·cases-cons,
+  Sublistᴰ,
+  Sublistᴰ·slnil,
+  Sublistᴰ·cons,
+  Sublistᴰ·cons-cons,
+  Sublistᴰ·nil-sublist,
+  Sublistᴰ·refl,
+  Sublistᴰ·trans,
+  Sublistᴰ·append,
+  Sublistᴰ·cases-cons-cons,
+}
+use borrow.Author.Tests.{eqb-true, eqb-false, eq-eqb}
+use lib.Dec.{eqb}
+use lib.ListN.{length, drop, length-append, length-map, length-reverse}
+use lib.Seq.{drop-length}
+use Rattle.policy.specs.Lists.{all, pick, mem, common, missing}
+use Rattle.policy.specs.Command.{commandType, ofType}
+use Rattle.policy.specs.AppendDelete.{keptRun, planOne}
+use Rattle.policy.specs.Properties.{In, Distinct, Precedes, SupportedBy, Ordered}
+use Rattle.policy.specs.Claims.{Policy, KeptRunIsLongest, PlanOneReaches, PlanOneCount}
+use Rattle.policy.specs.declared.Command.{Command}
+use Rattle.policy.specs.declared.Command.the-variants.{App, DelRule}
+use Rattle.policy.proofs.Tests.{byTest, and-both, both-and, falsely}
+use Rattle.policy.proofs.Lists.{mem-in, in-mem}
+use Rattle.policy.proofs.Order.{
+  distinct-left,
+  distinct-apart,
+  in-middle,
+  precedes-cases,
+  precedes-in-right,
+  sublist-in,
+  sublist-distinct,
+  sublist-precedes,
+  pick-in,
+  pick-sublist,
+  pick-append,
+  pick-count,
+}
+use Rattle.policy.proofs.Way.{Steps, steps-leads, steps-append}
+
+-- What is picked, once more: the rules of a list that occurs in another one are picked from it, and nothing where no rule passes.
+pub pick-occurring : {k l : List ℕ} (test : ℕ → Bool) → Sublistᴰ k l → Distinct l
+    → ((r : ℕ) → In r k → test r ≡ true) → ((r : ℕ) → In r l → test r ≡ true → In r k) → pick test l ≡ k
+unfolding pick
+pick-occurring test Sublistᴰ·slnil d pass only = refl
+pick-occurring test (Sublistᴰ·cons {a = x} s) d pass only =
+    rw (falsely (λ t. d .0 (sublist-in s x (only x (List·Memᴰ·head refl) t))))
+    (pick-occurring test s (d .1) pass (λ r h. only r (List·Memᴰ·tail h)))
+pick-occurring test (Sublistᴰ·cons-cons {a = x} {b = y} {l₁ = k} e s) d pass only =
+    let rest = pick-occurring test s (d .1) (λ r h. pass r (List·Memᴰ·tail h))
+    (λ r h t. ⊎-elim (λ f. absurd (d .0 (Memᴰ·cast (sym (f ∙ e)) h))) (λ i. i)
+    (List·Memᴰ·cases-cons (only r (List·Memᴰ·tail h) t))) in
+    rw (pass y (List·Memᴰ·head (sym e))) (cc)
+
+pub common-occurring : {k l : List ℕ} → Sublistᴰ k l → Distinct l → common l k ≡ k
+unfolding common
+common-occurring {k} s d = pick-occurring (λ r. mem r k) s d (λ r h. in-mem r k h) (λ r h t. mem-in r k t)
+
+pub pick-none : (test : ℕ → Bool) (l : List ℕ) → ((r : ℕ) → In r l → test r ≡ false) → pick test l ≡ []
+unfolding pick
+pick-none test [] fail = refl
+pick-none test (x ∷ l) fail = rw (fail x (List·Memᴰ·head refl)) (pick-none test l (λ r h. fail r (List·Memᴰ·tail h)))
+
+-- What is kept: a front part of the target, which occurs in order in the initial policy, and the longest such part.
+pub kept-run-front : (initial target : List ℕ) → target ≡ keptRun initial target ++ drop (length (keptRun initial target)) target
+unfolding keptRun
+kept-run-front [] target = refl
+kept-run-front (x ∷ initial) [] = refl
+kept-run-front (x ∷ initial) (r ∷ target) =
+    byTest (eqb x r)
+    (λ t. rw (t, keptRun) (ap (λ (l : List ℕ). r ∷ l) (kept-run-front initial target)))
+    (λ f. rw (f, keptRun) (kept-run-front initial (r ∷ target)))
+
+pub kept-run-occurs : (initial target : List ℕ) → Sublistᴰ (keptRun initial target) initial
+unfolding keptRun
+kept-run-occurs [] target = Sublistᴰ·slnil
+kept-run-occurs (x ∷ initial) [] = Sublistᴰ·nil-sublist (x ∷ initial)
+kept-run-occurs (x ∷ initial) (r ∷ target) =
+    byTest (eqb x r)
+    (λ t. rw (t, keptRun) (Sublistᴰ·cons-cons (sym (eqb-true x r t)) (kept-run-occurs initial target)))
+    (λ f. rw (f, keptRun) (Sublistᴰ·cons (kept-run-occurs initial (r ∷ target))))
+
+pub kept-run-longest : (initial target run rest : List ℕ) → target ≡ run ++ rest → Sublistᴰ run initial
+    → length run ≤ length (keptRun initial target)
+unfolding keptRun
+kept-run-longest [] target [] rest e s = zero-le
+kept-run-longest (x ∷ initial) target [] rest e s = zero-le
+kept-run-longest [] target (y ∷ run) rest e s = elim s [ ]
+kept-run-longest (x ∷ initial) [] (y ∷ run) rest e s = let clash : _≡_ {A = ℕ} 0 1 = cc in omega arith
+kept-run-longest (x ∷ initial) (r ∷ target) (y ∷ run) rest e s =
+    let heads : r ≡ y = cc in
+    let tails : target ≡ run ++ rest = cc in
+    byTest (eqb x r)
+    (λ t. rw (t, keptRun) (suc-le-suc (kept-run-longest initial target run rest tails
+    (⊎-elim (λ h. Sublistᴰ·trans (Sublistᴰ·cons (Sublistᴰ·refl run)) h) (λ h. h .1) (Sublistᴰ·cases-cons-cons s)))))
+    (λ f. rw (f, keptRun) (kept-run-longest initial (r ∷ target) (y ∷ run) rest e
+    (⊎-elim (λ h. h) (λ h. absurd (eqb-false x r f (sym (h .0) ∙ sym heads))) (Sublistᴰ·cases-cons-cons s))))
+
+pub kept-run-is-longest : KeptRunIsLongest
+kept-run-is-longest initial target = (
+  (drop (length (keptRun initial target)) target, kept-run-front initial target),
+  kept-run-occurs initial target,
+  kept-run-longest initial target,
+)
+
+-- a policy is kept as a whole where it is the target too
+pub kept-run-self : (l : List ℕ) → keptRun l l ≡ l
+unfolding keptRun
+kept-run-self [] = refl
+kept-run-self (x ∷ l) = rw (eq-eqb x x refl, keptRun) (ap (λ (m : List ℕ). x ∷ m) (kept-run-self l))
+
+-- "I = T: no command"
+pub plan-one-nothing : (initial : List ℕ) → planOne initial initial ≡ []
+unfolding planOne missing
+plan-one-nothing initial =
+    let none = pick-none (λ r. not (mem r initial)) initial (λ r h. rw (in-mem r initial h)) in
+    rw (kept-run-self initial, none, drop-length initial)
+
+-- "The count is initial + target − 2 × kept"
+pub plan-one-count : PlanOneCount
+unfolding planOne missing common
+plan-one-count initial target d =
+    let kept : List ℕ = keptRun initial target in
+    let out : List ℕ = missing initial kept in
+    let new : List ℕ = drop (length kept) target in
+    omega (
+      arith,
+      length-append (map DelRule (reverse out)) (map App new),
+      length-map (reverse out) DelRule,
+      length-reverse out,
+      length-map new App,
+      pick-count (λ r. mem r kept) initial,
+      ap length (common-occurring (kept-run-occurs initial target) d),
+      ap length (kept-run-front initial target) ∙ length-append kept new,
+    )
+
+-- The script is of type 1: a test of every command, of a script in two parts and of a script made from rules.
+pub all-append : {A : Type 0} (test : A → Bool) (u v : List A)
+    → all test u ≡ true → all test v ≡ true → all test (u ++ v) ≡ true
+unfolding all
+all-append test [] v e f = f
+all-append test (x ∷ u) v e f =
+    let both = and-both (test x) (all test u) e in
+    both-and (both .0) (all-append test u v (both .1) f)
+
+pub all-map : {A B : Type 0} (test : B → Bool) (f : A → B) (l : List A)
+    → ((x : A) → test (f x) ≡ true) → all test (map f l) ≡ true
+unfolding all
+all-map test f [] h = refl
+all-map test f (x ∷ l) h = both-and (h x) (all-map test f l h)
+
+plan-one-type : (initial target : List ℕ) → ofType 1 (planOne initial target) ≡ true
+unfolding ofType planOne commandType
+plan-one-type initial target =
+    let test : Command → Bool = λ c. eqb (commandType c) 1 in
+    let out : List ℕ = reverse (missing initial (keptRun initial target)) in
+    let new : List ℕ = drop (length (keptRun initial target)) target in
+    all-append test (map DelRule out) (map App new) (all-map test DelRule out (λ r. refl)) (all-map test App new (λ r. refl))
+
+-- a rule of a front part of a policy, where that part occurs in order in the running list
+pub front-supported : (policy running u v : List ℕ) → policy ≡ u ++ v → Distinct policy → Sublistᴰ u running
+    → (r : ℕ) → In r u → SupportedBy policy running r
+front-supported policy running u v e d s r h =
+    let apart : ¬ In r v = distinct-apart u v (subst Distinct e d) r h in
+    record {
+      named = rw e (Memᴰ·append-left v h);
+      led = λ x p.
+          ⊎-elim (λ i. sublist-precedes x r s i)
+          (⊎-elim (λ i. absurd (apart (i .1))) (λ i. absurd (apart (precedes-in-right x r v i))))
+          (precedes-cases x r u v (subst (Precedes x r) e p));
+    }
+
+-- a list that the judge does not turn away with verdict 30
+pub record Orderly (initial target l : List ℕ) : Type 0 where
+  pub distinct : Distinct l
+  pub ordered : Ordered initial target l
+
+-- The lists on the way, whichever rules are kept: they are a front part of the target and occur in order in the initial policy.
+module _ (size : ℕ) (initial target kept rest : List ℕ) (first : Policy size initial) (last : Policy size target)
+    (front : target ≡ kept ++ rest) (occurs : Sublistᴰ kept initial) where
+  abbrev Way : List ℕ → List Command → List ℕ → Type 0
+  Way l script n = Steps (Orderly initial target) (λ l m. Unit {0}) size l script n
+
+  -- while it deletes: a front part of the initial policy, and then the kept rules of the others
+  deleting-orderly : (u v : List ℕ) → initial ≡ u ++ v → Orderly initial target (u ++ common v kept)
+  unfolding common
+  deleting-orderly u v e =
+      let running : List ℕ = u ++ common v kept in
+      let parts : common u kept ++ common v kept ≡ kept =
+      sym (pick-append (λ r. mem r kept) u v) ∙ ap (λ (l : List ℕ). common l kept) (sym e)
+      ∙ common-occurring occurs (first .distinct) in
+      let kept-in : Sublistᴰ kept running =
+      subst (λ (l : List ℕ). Sublistᴰ l running) parts
+      (Sublistᴰ·append (pick-sublist (λ r. mem r kept) u) (Sublistᴰ·refl (common v kept))) in
+      let front-in : Sublistᴰ u running =
+      subst (λ (l : List ℕ). Sublistᴰ l running) (append-nil u)
+      (Sublistᴰ·append (Sublistᴰ·refl u) (Sublistᴰ·nil-sublist (common v kept))) in
+      let running-in : Sublistᴰ running (u ++ v) = Sublistᴰ·append (Sublistᴰ·refl u) (pick-sublist (λ r. mem r kept) v) in
+      record {
+        distinct = sublist-distinct running-in (subst Distinct e (first .distinct));
+        ordered = λ r h.
+            ⊎-elim
+            (λ t. inl (front-supported initial running u v e (first .distinct) front-in r t))
+            (λ t. inr (front-supported target running kept rest front (last .distinct) kept-in r
+            (mem-in r kept (pick-in (λ r. mem r kept) v r t .1))))
+            (List·Memᴰ·append-cases u h);
+      }
+
+  deleting : (u v : List ℕ) → initial ≡ u ++ v → Way initial (map DelRule (reverse (missing v kept))) (u ++ common v kept)
+  unfolding common missing pick
+  deleting u [] e = (subst (Orderly initial target) (sym e) (deleting-orderly u [] e), e)
+  deleting u (x ∷ v) e =
+      let left : List ℕ = common v kept in
+      let script : List Command = map DelRule (reverse (missing v kept)) in
+      let on : initial ≡ (u ++ (x ∷ [])) ++ v = e ∙ sym (append-assoc u (x ∷ []) v) in
+      let others : Way initial script ((u ++ (x ∷ [])) ++ left) = deleting (u ++ (x ∷ [])) v on in
+      let at : (u ++ (x ∷ [])) ++ left ≡ u ++ (x ∷ left) = append-assoc u (x ∷ []) left in
+      let there : In x initial = rw e (in-middle x u v) in
+      let once : ¬ In x u = λ h. distinct-apart u (x ∷ v) (subst Distinct e (first .distinct)) x h (List·Memᴰ·head refl) in
+      byTest (mem x kept)
+      (λ t. rw t (subst (λ (l : List ℕ). Way initial script l) at others))
+      (λ f. let after : Orderly initial target (u ++ left) = rw f at (deleting-orderly u (x ∷ v) e) in
+      let last-one : Way ((u ++ (x ∷ [])) ++ left) (DelRule x ∷ []) (u ++ left) =
+      (deleting-orderly (u ++ (x ∷ [])) v on, (u ++ left, (u, left, first .inside x there, once, at, refl), tt, (after, refl))) in
+      rw (f, reverseAux-eq (missing v kept) (x ∷ []), map-append DelRule (reverse (missing v kept)) (x ∷ []))
+      (steps-append (Orderly initial target) (λ l m. Unit {0}) size initial ((u ++ (x ∷ [])) ++ left) (u ++ left)
+      script (DelRule x ∷ []) others last-one))
+
+  -- while it appends: a front part of the target
+  appending-orderly : (u v : List ℕ) → target ≡ u ++ v → Orderly initial target u
+  appending-orderly u v e =
+      record {
+        distinct = distinct-left u v (subst Distinct e (last .distinct));
+        ordered = λ r h. inr (front-supported target u u v e (last .distinct) (Sublistᴰ·refl u) r h);
+      }
+
+  appending : (u v : List ℕ) → target ≡ u ++ v → Way u (map App v) target
+  appending u [] e = (appending-orderly u [] e, sym (e ∙ append-nil u))
+  appending u (r ∷ v) e =
+      let there : In r target = rw e (in-middle r u v) in
+      let new : ¬ In r u = λ h. distinct-apart u (r ∷ v) (subst Distinct e (last .distinct)) r h (List·Memᴰ·head refl) in
+      let on : target ≡ (u ++ (r ∷ [])) ++ v = e ∙ sym (append-assoc u (r ∷ []) v) in
+      (appending-orderly u (r ∷ v) e, (u ++ (r ∷ []), (last .inside r there, new, refl), tt, appending (u ++ (r ∷ [])) v on))
+
+  keeping-steps : Steps (Orderly initial target) (λ l m. Unit {0}) size initial
+      (map DelRule (reverse (missing initial kept)) ++ map App rest) target
+  keeping-steps =
+      steps-append (Orderly initial target) (λ l m. Unit {0}) size initial kept target
+      (map DelRule (reverse (missing initial kept))) (map App rest)
+      (subst (λ (l : List ℕ). Way initial (map DelRule (reverse (missing initial kept))) l)
+      (common-occurring occurs (first .distinct)) (deleting [] initial refl))
+      (appending kept rest front)
+
+pub plan-one-steps : (size : ℕ) (initial target : List ℕ) → Policy size initial → Policy size target
+    → Steps (Orderly initial target) (λ l m. Unit {0}) size initial (planOne initial target) target
+unfolding planOne
+plan-one-steps size initial target first last =
+    keeping-steps size initial target (keptRun initial target) (drop (length (keptRun initial target)) target)
+    first last (kept-run-front initial target) (kept-run-occurs initial target)
+
+pub plan-one-reaches : PlanOneReaches
+plan-one-reaches size initial target first last = (
+  plan-one-type initial target,
+  steps-leads (Orderly initial target) (λ l m. Unit {0}) size initial target (planOne initial target)
+      (plan-one-steps size initial target first last),
+)

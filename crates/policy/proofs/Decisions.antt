@@ -1,0 +1,132 @@
+-- What a list on the way decides: as one of the two policies does. The first rule of an ordered list that hits is the first in
+-- the policy that supports it: what stands before it there stands before it in the list. And a full list without a hit contains a
+-- policy without one. Assumes nothing.
+use Prim.Native.Nat.{ℕ, suc}
+use mathlib.Core.Path.{_≡_, refl, sym, _∙_, ap}
+use mathlib.Core.Bool.{true, false}
+use mathlib.Core.Logic.{_⊎_, inl, inr, ⊎-elim, ⊎-map, _≢_}
+use mathlib.Core.List.{List, [], _∷_, List·Memᴰ·head, List·Memᴰ·tail, List·Memᴰ·cases-cons, List·Memᴰ·not-nil}
+use Rattle.policy.specs.Policy.{Matching, decideFrom, decide, decided}
+use Rattle.policy.specs.Properties.{In, Distinct, Within, Precedes, SupportedBy, Ordered, Full}
+use Rattle.policy.specs.Claims.{OrderedAndFullDecidesAsOne, OrderedKeepsTheDefault}
+use Rattle.policy.proofs.Tests.{byTest, never}
+use Rattle.policy.proofs.Order.{precedes-in-right, precedes-total}
+
+-- rule r is in the list and hits, and no rule before it does
+pub record FirstHit (m : Matching) (l : List ℕ) (r : ℕ) : Type 0 where
+  pub there : In r l
+  pub hits : m .hit r ≡ true
+  pub first : (x : ℕ) → Precedes x r l → m .hit x ≡ false
+
+abbrev pub NoHit : Matching → List ℕ → Type 0
+NoHit m l = (x : ℕ) → In x l → m .hit x ≡ false
+
+-- the list decides the flow by the rule that decides it in the policy, or neither has such a rule
+abbrev pub Follows : Matching → List ℕ → List ℕ → Type 0
+Follows m policy l = ((r : ℕ) × FirstHit m policy r × FirstHit m l r) ⊎ (NoHit m policy × NoHit m l)
+
+module _ (m : Matching) where
+  -- the place from which a list is counted has no part in the action
+  place-free : (p q : ℕ) (l : List ℕ) → (decideFrom m p l) .action ≡ (decideFrom m q l) .action
+  unfolding decideFrom
+  place-free p q [] = refl
+  place-free p q (x ∷ l) = byTest (m .hit x) (λ t. rw t) (λ f. rw f (place-free (suc p) (suc q) l))
+
+  -- Lists by their head.
+  pub head-decides : (x : ℕ) (l : List ℕ) → m .hit x ≡ true → decided m (x ∷ l) ≡ m .action x
+  unfolding decided decide decideFrom
+  head-decides x l t = rw (t, decided)
+
+  pub head-passes : (x : ℕ) (l : List ℕ) → m .hit x ≡ false → decided m (x ∷ l) ≡ decided m l
+  unfolding decided decide decideFrom
+  head-passes x l f = rw (f, decided) (place-free 2 1 l)
+
+  pub first-hit-tail : (x r : ℕ) (l : List ℕ) → m .hit x ≡ false → FirstHit m (x ∷ l) r → FirstHit m l r
+  first-hit-tail x r l f h =
+      record {
+        there = ⊎-elim (λ e. never (h .hits) (ap (m .hit) e ∙ f)) (λ t. t) (List·Memᴰ·cases-cons (h .there));
+        hits = h .hits;
+        first = λ y p. h .first y (inr p);
+      }
+
+  -- The first hit of a list.
+  pub first-hit-decides : (l : List ℕ) (r : ℕ) → FirstHit m l r → decided m l ≡ m .action r
+  first-hit-decides [] r h = absurd (List·Memᴰ·not-nil (h .there))
+  first-hit-decides (x ∷ l) r h =
+      byTest (m .hit x)
+      (λ t. head-decides x l t
+      ∙ ⊎-elim (λ e. ap (m .action) (sym e)) (λ k. never t (h .first x (inl (refl, k)))) (List·Memᴰ·cases-cons (h .there)))
+      (λ f. head-passes x l f ∙ first-hit-decides l r (first-hit-tail x r l f h))
+
+  pub no-hit-decides : (l : List ℕ) → NoHit m l → decided m l ≡ m .default
+  unfolding decided decide decideFrom
+  no-hit-decides [] h = refl
+  no-hit-decides (x ∷ l) h = head-passes x l (h x (List·Memᴰ·head refl)) ∙ no-hit-decides l (λ y k. h y (List·Memᴰ·tail k))
+
+  pub first-hit-or-none : (l : List ℕ) → Distinct l → ((r : ℕ) × FirstHit m l r) ⊎ NoHit m l
+  first-hit-or-none [] d = inr (λ x h. absurd (List·Memᴰ·not-nil h))
+  first-hit-or-none (x ∷ l) d =
+      byTest (m .hit x)
+      (λ t. inl (
+        x,
+        record {
+          there = List·Memᴰ·head refl;
+          hits = t;
+          first = λ y p. absurd (d .0 (⊎-elim (λ h. h .1) (λ q. precedes-in-right y x l q) p));
+        },
+      ))
+      (λ f. ⊎-elim
+      (λ h. inl (
+        h .0,
+        record {
+          there = List·Memᴰ·tail (h .1 .there);
+          hits = h .1 .hits;
+          first = λ y p. ⊎-elim (λ k. ap (m .hit) (sym (k .0)) ∙ f) (λ q. h .1 .first y q) p;
+        },
+      ))
+      (λ n. inr (λ y k. ⊎-elim (λ e. ap (m .hit) e ∙ f) (λ t. n y t) (List·Memᴰ·cases-cons k)))
+      (first-hit-or-none l (d .1)))
+
+  -- the first hit stands before every other rule that hits
+  pub first-hit-precedes : (a b : ℕ) (l : List ℕ) → FirstHit m l a → m .hit b ≡ true → a ≢ b → In b l → Precedes a b l
+  first-hit-precedes a b l h t n k =
+      ⊎-elim (λ p. p) (λ p. never t (h .first b p)) (precedes-total a b l (h .there) k n)
+
+  -- A list that follows a policy.
+  pub follows-decides : (policy l : List ℕ) → Follows m policy l → decided m l ≡ decided m policy
+  follows-decides policy l =
+      ⊎-elim (λ h. first-hit-decides l (h .0) (h .2) ∙ sym (first-hit-decides policy (h .0) (h .1)))
+      (λ n. no-hit-decides l (n .1) ∙ sym (no-hit-decides policy (n .0)))
+
+  pub supported-follows : (policy l : List ℕ) (r : ℕ) → FirstHit m l r → SupportedBy policy l r → Follows m policy l
+  supported-follows policy l r h s =
+      inl (r, record { there = s .named; hits = h .hits; first = λ x p. h .first x (s .led x p) }, h)
+
+  pub within-follows : (policy l : List ℕ) → NoHit m l → Within policy l → Follows m policy l
+  within-follows policy l n w = inr ((λ x h. n x (w x h)), n)
+
+  pub ordered-follows : (initial target l : List ℕ)
+      → Distinct l → Ordered initial target l → (Follows m initial l ⊎ Follows m target l) ⊎ NoHit m l
+  ordered-follows initial target l d o =
+      ⊎-map
+      (λ h. ⊎-map (supported-follows initial l (h .0) (h .1)) (supported-follows target l (h .0) (h .1)) (o (h .0) (h .1 .there)))
+      (λ n. n)
+      (first-hit-or-none l d)
+
+  pub follows-one : (initial target l : List ℕ)
+      → Distinct l → Ordered initial target l → Full initial target l → Follows m initial l ⊎ Follows m target l
+  follows-one initial target l d o full =
+      ⊎-elim (λ f. f)
+      (λ n. ⊎-map (within-follows initial l n) (within-follows target l n) full)
+      (ordered-follows initial target l d o)
+
+pub ordered-and-full-decides-as-one : OrderedAndFullDecidesAsOne
+ordered-and-full-decides-as-one m initial target l d o full =
+    ⊎-map (follows-decides m initial l) (follows-decides m target l) (follows-one m initial target l d o full)
+
+pub ordered-keeps-the-default : OrderedKeepsTheDefault
+ordered-keeps-the-default m initial target l d o i t =
+    ⊎-elim
+    (⊎-elim (λ f. follows-decides m initial l f ∙ i) (λ f. follows-decides m target l f ∙ t))
+    (no-hit-decides m l)
+    (ordered-follows m initial target l d o)
