@@ -5,3 +5,5 @@ pub mod Values
 pub mod Contents
 pub mod File
 pub mod FieldValues
+pub mod Properties
+pub mod Claims

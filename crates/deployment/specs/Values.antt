@@ -122,11 +122,15 @@ everyCommand type (bytes ∷ others) =
       | some c ↦ elim (everyCommand type others) [ none ↦ none | some commands ↦ some (c ∷ commands) ]
     ]
 
+-- "then five bytes a command"
+unfoldable pub commandChunks : List ℕ → List (List ℕ)
+commandChunks value = chunks 5 ((length value - 1) / 5) (drop 1 value)
+
 unfoldable pub scriptOf : List ℕ → Option Script
 scriptOf value =
     let type = number (part 0 1 value) in
     cond (eqb type 1 || eqb type 2)
-    (elim (everyCommand type (chunks 5 ((length value - 1) / 5) (drop 1 value))) [
+    (elim (everyCommand type (commandChunks value)) [
       | none ↦ none
       | some commands ↦ some (record { type = type; commands = commands })
     ])
