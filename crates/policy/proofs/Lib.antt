@@ -2,9 +2,12 @@ pub mod Tests
 pub mod Lists
 pub mod Order
 pub mod Way
+pub mod Replay
 pub mod Decisions
+pub mod Judge
 pub mod Once
 pub mod AppendDelete
 pub mod Fewest
+pub mod Plans
 pub mod Examples
 pub mod Traps

@@ -11,7 +11,6 @@ use mathlib.Core.List.{List, [], _∷_}
 use borrow.Author.Tests.{eqb-true, eqb-false}
 use lib.Dec.{eqb}
 use Rattle.policy.specs.Policy.{Matching, decided, sameAction}
-use Rattle.policy.specs.Command.{passed, step}
 use Rattle.policy.specs.Replay.{lists}
 use Rattle.policy.specs.Properties.{Makes, After}
 use Rattle.policy.specs.Claims.{changePoint, ChangesOnce}
@@ -20,6 +19,7 @@ use Rattle.policy.specs.declared.Action.the-variants.{Deny, Permit}
 use Rattle.policy.specs.declared.Command.{Command}
 use Rattle.policy.proofs.Tests.{byTest, never}
 use Rattle.policy.proofs.Way.{Rivals, Forward, Sound, Steps}
+use Rattle.policy.proofs.Replay.{makes-unique, makes-passes}
 use Rattle.policy.proofs.Decisions.{
   FirstHit,
   Follows,
@@ -106,10 +106,7 @@ pub steps-first : (P : List ℕ → Type 0) (E : List ℕ → List ℕ → Type 
 steps-first P E size l n [] s = s .0
 steps-first P E size l n (c ∷ script) s = s .0
 
-module _
-    (makes-unique : (size : ℕ) (l m n : List ℕ) (c : Command) → Makes size l c m → Makes size l c n → m ≡ n)
-    (makes-passes : (size : ℕ) (l m : List ℕ) (c : Command) → Makes size l c m → step size l c ≡ passed m)
-    (m : Matching) (size : ℕ) (initial target : List ℕ) where
+module _ (m : Matching) (size : ℕ) (initial target : List ℕ) where
   -- the list after some commands is the first one, or comes after the first command
   pub after-cases : (l n x : List ℕ) (c : Command) (script : List Command) (k : ℕ)
       → Makes size l c n → After size l (c ∷ script) k x
@@ -121,7 +118,7 @@ module _
         refl,
         record {
           reached = le-of-suc-le-suc (a .reached);
-          leads = rw (makes-unique size l (a .leads .0) n c (a .leads .1) made) at (a .leads .2);
+          leads = rw (makes-unique size l c (a .leads .0) n (a .leads .1) made) at (a .leads .2);
         },
       )
 
@@ -136,7 +133,7 @@ module _
       → Makes size l c n → sameAction (decided m l) (decided m target) ≡ false
       → changePoint m target (lists size l (c ∷ script)) ≡ suc (changePoint m target (lists size n script))
   unfolding changePoint lists
-  point-later l n c script made u = rw (u, makes-passes size l n c made)
+  point-later l n c script made u = rw (u, makes-passes size l c n made)
 
   -- A command in front of a script that changes the flow once.
   changed-already : (l n : List ℕ) (c : Command) (script : List Command) (point : ℕ) → Makes size l c n
