@@ -1,6 +1,7 @@
 pub mod Tests
 pub mod Lists
 pub mod Order
+pub mod Standing
 pub mod Way
 pub mod Replay
 pub mod Decisions
@@ -8,6 +9,9 @@ pub mod Judge
 pub mod Once
 pub mod AppendDelete
 pub mod Fewest
+pub mod StageTwo
+pub mod StageOne
+pub mod InsertDeleteMove
 pub mod Plans
 pub mod Examples
 pub mod Traps
