@@ -1,0 +1,1 @@
+-- The decision's contracts are stated with the definitions of the crates below; there are none of its own.

@@ -1,0 +1,113 @@
+// The first-match decision of a flow, over a catalogue and a policy as bytes.
+
+ghost use mathlib.Core.Path.{_≡_};
+ghost use Prim.Native.Nat.{_+_, _≤_};
+ghost use lib.ListN.{length};
+ghost use Rattle.policy.specs.Rule.{hits, says, matches, lies};
+ghost use Rattle.policy.specs.Policy.{decide, matching};
+ghost use Rattle.deployment.specs.Values.{numbersOf, ruleOf, rangeAt};
+ghost use Rattle.deployment.specs.Catalogue.{catalogueOf};
+use deployment::four;
+use deployment::listed;
+use deployment::number_at;
+use deployment::two;
+use policy::Action;
+use policy::Decision;
+use policy::Flow;
+
+// "a rule, 27 bytes"
+pub const RULE_BYTES: usize = 27;
+
+// Whether a number lies in the one-byte range that starts at byte `at` of a rule; and so for two and four bytes.
+fn lies_one(rule: &[u8], at: usize, n: u8) -> bool
+    requires { ⌜ at + 2 ≤ length (now rule) ⌝ }
+    ensures { λ r. ⌜ r ≡ lies n (rangeAt at 1 (now (rule .entry))) ⌝ }
+{
+    rule[at] <= n && n <= rule[at + 1]
+}
+
+fn lies_two(rule: &[u8], at: usize, n: u16) -> bool
+    requires { ⌜ at + 4 ≤ length (now rule) ⌝ }
+    ensures { λ r. ⌜ r ≡ lies n (rangeAt at 2 (now (rule .entry))) ⌝ }
+{
+    two(rule[at], rule[at + 1]) <= n && n <= two(rule[at + 2], rule[at + 3])
+}
+
+fn lies_four(rule: &[u8], at: usize, n: u32) -> bool
+    requires { ⌜ at + 8 ≤ length (now rule) ⌝ }
+    ensures { λ r. ⌜ r ≡ lies n (rangeAt at 4 (now (rule .entry))) ⌝ }
+{
+    four(rule[at], rule[at + 1], rule[at + 2], rule[at + 3]) <= n
+        && n <= four(rule[at + 4], rule[at + 5], rule[at + 6], rule[at + 7])
+}
+
+// "It matches a flow when each number lies in its range": left at the first that does not.
+fn record_matches(rule: &[u8], flow: Flow) -> bool
+    requires { ⌜ length (now rule) ≡ 27 ⌝ }
+    ensures { λ r. ⌜ r ≡ matches (ruleOf (now (rule .entry))) flow ⌝ }
+{
+    if !lies_one(rule, 1, flow.protocol) {
+        return false;
+    }
+    if !lies_four(rule, 3, flow.source) {
+        return false;
+    }
+    if !lies_two(rule, 11, flow.source_port) {
+        return false;
+    }
+    if !lies_four(rule, 15, flow.destination) {
+        return false;
+    }
+    lies_two(rule, 23, flow.destination_port)
+}
+
+// Whether rule `n` of the catalogue matches the flow; `skip` bytes stand before each record. A number outside the catalogue matches nothing.
+pub fn hit(rules: &[u8], skip: u8, n: usize, flow: Flow) -> bool
+    ensures { λ r. ⌜ r ≡ hits (catalogueOf skip (now (rules .entry))) flow n ⌝ }
+{
+    let step = skip as usize + RULE_BYTES;
+    if rules.len() / step <= n {
+        return false;
+    }
+    let at = n * step + skip as usize;
+    record_matches(&rules[at..at + RULE_BYTES], flow)
+}
+
+// What rule `n` of the catalogue says; a number outside it permits nothing.
+pub fn action(rules: &[u8], skip: u8, n: usize) -> Action
+    ensures { λ r. ⌜ r ≡ says (catalogueOf skip (now (rules .entry))) n ⌝ }
+{
+    let step = skip as usize + RULE_BYTES;
+    if rules.len() / step <= n {
+        return Action::Deny;
+    }
+    if rules[n * step + skip as usize] == 1 {
+        Action::Permit
+    } else {
+        Action::Deny
+    }
+}
+
+// "A flow is decided by the first rule that matches; if none does, it is denied": action and place, places counted from 1.
+pub fn decided(rules: &[u8], skip: u8, list: &[u8], flow: Flow) -> Decision
+    ensures { λ d. ⌜ d ≡ decide (matching (catalogueOf skip (now (rules .entry))) flow) (numbersOf (now (list .entry))) ⌝ }
+{
+    let count = listed(list);
+    let mut left = count;
+    while 0 < left {
+        let k = count - left;
+        let n = number_at(list, k) as usize;
+        if hit(rules, skip, n, flow) {
+            let place = k + 1;
+            return Decision {
+                action: action(rules, skip, n),
+                place,
+            };
+        }
+        left -= 1;
+    }
+    Decision {
+        action: Action::Deny,
+        place: 0,
+    }
+}

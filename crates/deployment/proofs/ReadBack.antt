@@ -1,0 +1,498 @@
+-- What is written reads back: the reader goes through the bytes of fields that can have been read and has those fields then, so
+-- valid contents come back from their file and from their field values. The idea: bytes lead the reader from fields to fields,
+-- and bytes one after another lead it on. Assumes nothing.
+use Prim.Native.Nat.{ℕ, zero, suc, _+_, _*_, _-_, _/_, _%_, _≤_, _<_}
+use native.Mathlib.Nat.{add-zero, zero-add, not-suc-le-zero, le-of-suc-le-suc}
+use native.Mathlib.Omega.{arith}
+use mathlib.Core.Path.{_≡_, refl, sym, _∙_, ap}
+use mathlib.Core.Bool.{true, false, _&&_}
+use mathlib.Core.Logic.{⊎-elim}
+use mathlib.Core.Option.{Option, none, some}
+use mathlib.Core.List.{
+  List,
+  [],
+  _∷_,
+  _++_,
+  map,
+  append-assoc,
+  append-nil,
+  List·Memᴰ,
+  List·Memᴰ·head,
+  Memᴰ·append-right,
+  Memᴰ·of-map,
+  List·Memᴰ·cases-cons,
+  List·Memᴰ·not-nil,
+  Sublistᴰ,
+}
+use borrow.Author.Tests.{eq-eqb, le-leb, lt-leb, lt-ltb}
+use lib.Dec.{eqb, leb, ltb}
+use lib.ListN.{length, drop, length-append, length-map}
+use lib.Seq.{drop-at, take-at}
+use Rattle.policy.specs.Lists.{mem}
+use Rattle.policy.specs.Policy.{most-rules, most-listed}
+use Rattle.policy.specs.Rule.{Rule}
+use Rattle.policy.specs.Claims.{Keepable}
+use Rattle.policy.proofs.Tests.{both-and, or-left}
+use Rattle.policy.proofs.Lists.{in-all}
+use Rattle.policy.proofs.Order.{distinct-differ, sublist-occurs, sublist-in, sublist-distinct, within-length}
+use Rattle.deployment.specs.Checked.{good}
+use Rattle.deployment.specs.Bytes.{number, bytesOf, part, chunks, joined}
+use Rattle.deployment.specs.Values.{Script, ruleBytes, numbersBytes, scriptBytes, listFits, scriptFits}
+use Rattle.deployment.specs.Contents.{Contents, ruleRead, policyRead, keepRead, scriptRead}
+use Rattle.deployment.specs.File.{
+  Fields,
+  nothing,
+  listed,
+  rule-tag,
+  initial-tag,
+  target-tag,
+  keep-tag,
+  script-tag,
+  nextTags,
+  lengthFits,
+  fieldRead,
+  withRule,
+  withInitial,
+  withTarget,
+  withKeep,
+  withScript,
+  withField,
+  atEnd,
+  readFrom,
+  readFile,
+  fieldBytes,
+  ifThere,
+  fileOf,
+}
+use Rattle.deployment.specs.FieldValues.{
+  rulesRead,
+  catalogueValue,
+  policyValue,
+  keepValue,
+  scriptValue,
+  valuesRead,
+  atZero,
+  readValues,
+}
+use Rattle.deployment.specs.Properties.{
+  AreBytes,
+  Recordable,
+  Unlike,
+  Catalogue,
+  Listed,
+  Scripted,
+  IfThere,
+  There,
+  Valid,
+  Readable,
+  fieldsBytes,
+}
+use Rattle.deployment.specs.Claims.{ReadBack, ValuesReadBack, valuesOf}
+use Rattle.deployment.proofs.Bytes.{
+  are-bytes-append,
+  bytes-are-bytes,
+  number-bytes,
+  chunks-joined,
+  length-joined,
+  are-bytes-joined,
+}
+use Rattle.deployment.proofs.Values.{
+  rule-read,
+  rule-fits,
+  length-rule,
+  rule-are-bytes,
+  not-known,
+  length-numbers,
+  numbers-are-bytes,
+  numbers-read,
+  length-script,
+  script-are-bytes,
+  script-read,
+}
+
+-- The values of fields, read: each passes its tests.
+pub rule-reads : (catalogue : List Rule) (rule : Rule) → Recordable rule → ¬ List·Memᴰ rule catalogue
+    → ruleRead catalogue (ruleBytes rule) ≡ good rule
+unfolding ruleRead
+rule-reads catalogue rule h n = rw (rule-fits rule h, rule-read rule h, not-known rule catalogue n)
+
+pub policy-reads : (size : ℕ) (policy : List ℕ) → size ≤ most-rules → Listed size policy
+    → policyRead size (numbersBytes policy) ≡ good policy
+unfolding policyRead
+policy-reads size policy few h =
+    rw (
+      numbers-read policy (λ n t. omega (arith, h .sound .inside n t)),
+      in-all (λ r. ltb r size) policy (λ r t. lt-ltb r size (h .sound .inside r t)),
+      distinct-differ policy (h .sound .distinct),
+    )
+
+pub keep-reads : (size : ℕ) (initial target keep : List ℕ) → size ≤ most-rules → Listed size target
+    → Sublistᴰ keep initial → Sublistᴰ keep target → keepRead initial target (numbersBytes keep) ≡ good keep
+unfolding keepRead
+keep-reads size initial target keep few h s t =
+    rw (
+      numbers-read keep (λ n k. omega (arith, h .sound .inside n (sublist-in t n k))),
+      sublist-occurs keep initial s,
+      sublist-occurs keep target t,
+    )
+
+pub script-reads : (s : Script) → Scripted s → scriptRead (scriptBytes s) ≡ good s
+unfolding scriptRead
+script-reads s h = rw (script-read s h, scriptRead)
+
+list-fits : (numbers : List ℕ) → length numbers ≤ most-listed → listFits (length (numbersBytes numbers)) ≡ true
+unfolding listFits
+list-fits numbers few =
+    rw (length-numbers numbers)
+    (both-and (eq-eqb (2 * length numbers % 2) 0 (omega arith)) (le-leb (2 * length numbers) 1024 (omega arith)))
+
+script-fits : (s : Script) → Scripted s → scriptFits (length (scriptBytes s)) ≡ true
+unfolding scriptFits
+script-fits s h =
+    let n = length (s .commands) in
+    let few : n ≤ 2048 = h .few in
+    rw (length-script s)
+    (both-and (both-and (le-leb 1 (1 + 5 * n) (omega arith)) (eq-eqb ((1 + 5 * n - 1) % 5) 0 (omega arith)))
+    (le-leb (1 + 5 * n) 10241 (omega arith)))
+
+-- a keep list has no more rules than a policy in which it occurs
+pub keep-few : (size : ℕ) (policy keep : List ℕ) → Listed size policy → Sublistᴰ keep policy → length keep ≤ most-listed
+keep-few size policy keep h s =
+    omega (arith, within-length keep policy (sublist-distinct s (h .sound .distinct)) (sublist-in s), h .few)
+
+-- The bytes of the field just read are passed over.
+pub pass-over : (n : ℕ) (f : Fields) (at : ℕ) (left : List ℕ) → n ≤ length left
+    → readFrom n f at left ≡ readFrom 0 f (at + n) (drop n left)
+unfolding readFrom
+pass-over zero f at left h = rw (add-zero at)
+pass-over (suc n) f at [] h = absurd (not-suc-le-zero h)
+pass-over (suc n) f at (b ∷ left) h =
+    let moved : suc at + n ≡ at + suc n = omega arith in
+    rw moved at (pass-over n f (suc at) left (le-of-suc-le-suc h))
+
+-- The field at the head of bytes.
+pub length-field : (tag : ℕ) (value : List ℕ) → length (fieldBytes tag value) ≡ 3 + length value
+unfolding fieldBytes bytesOf
+length-field tag value = omega arith
+
+module _ (tag : ℕ) (value left : List ℕ) where
+  tag-read : tag < 256 → number (part 0 1 (fieldBytes tag value ++ left)) ≡ tag
+  unfolding fieldBytes bytesOf part
+  tag-read h = number-bytes 1 tag h
+
+  size-read : length value < 65536 → number (part 1 2 (fieldBytes tag value ++ left)) ≡ length value
+  unfolding fieldBytes bytesOf part
+  size-read h = number-bytes 2 (length value) h
+
+  value-read : part 3 (length value) (fieldBytes tag value ++ left) ≡ value
+  unfolding fieldBytes bytesOf part
+  value-read = take-at value left (length value) refl
+
+  pub field-read : (f : Fields) → tag < 256 → length value < 65536 → mem tag (nextTags f) ≡ true
+      → (eqb tag rule-tag && leb most-rules (length (f .catalogue))) ≡ false → lengthFits tag (length value) ≡ true
+      → fieldRead f (fieldBytes tag value ++ left) ≡ good (record { tag = tag; value = value })
+  unfolding fieldRead
+  field-read f small few stands counted fits =
+      let long : 3 + length value ≤ length (fieldBytes tag value ++ left) =
+      omega (arith, length-append (fieldBytes tag value) left, length-field tag value) in
+      let whole = le-leb (3 + length value) (length (fieldBytes tag value ++ left)) long in
+      let headed = le-leb 3 (length (fieldBytes tag value ++ left)) (omega arith) in
+      rw (headed, tag-read small, stands, counted, size-read few, fits, whole, value-read)
+
+-- Bytes that lead the reader from fields to fields, whatever is left behind them.
+pub record Through (f : Fields) (bytes : List ℕ) (g : Fields) : Type 0 where
+  pub reads : (at : ℕ) (left : List ℕ) → readFrom 0 f at (bytes ++ left) ≡ readFrom 0 g (at + length bytes) left
+
+pub through-none : {f : Fields} → Through f [] f
+through-none = record { reads = λ at left. rw (add-zero at) }
+
+pub through-both : {f g h : Fields} {u v : List ℕ} → Through f u g → Through g v h → Through f (u ++ v) h
+through-both {u = u} {v = v} first second =
+    record {
+      reads = λ at left.
+          let further : at + length (u ++ v) ≡ at + length u + length v = omega (arith, length-append u v) in
+          rw (append-assoc u v left, further, first .reads at (v ++ left), second .reads (at + length u) left);
+    }
+
+pub through-field : (f : Fields) {g : Fields} (tag : ℕ) (value : List ℕ) → tag < 256 → length value < 65536
+    → mem tag (nextTags f) ≡ true → (eqb tag rule-tag && leb most-rules (length (f .catalogue))) ≡ false
+    → lengthFits tag (length value) ≡ true → withField f (record { tag = tag; value = value }) ≡ good g
+    → Through f (fieldBytes tag value) g
+unfolding readFrom fieldBytes bytesOf
+through-field f {g} tag value small few stands counted fits gives =
+    record {
+      reads = λ at left.
+          let read = field-read tag value left f small few stands counted fits in
+          let rest : List ℕ = bytesOf 2 (length value) ++ value in
+          let behind = drop-at rest left (2 + length value) (omega arith) in
+          let further : suc at + (2 + length value) ≡ at + length (fieldBytes tag value) = omega arith in
+          let passed = pass-over (2 + length value) g (suc at) (rest ++ left) (omega (arith, length-append rest left)) in
+          rw (read, readFrom) (rw (gives, passed, behind, further));
+    }
+
+-- Fields, one at a time.
+abbrev fields : List Rule → Option (List ℕ) → Option (List ℕ) → Option (List ℕ) → Option Script → Fields
+fields catalogue initial target keep script =
+    record { catalogue = catalogue; initial = initial; target = target; keep = keep; script = script }
+
+abbrev rulesOnly : List Rule → Fields
+rulesOnly catalogue = fields catalogue none none none none
+
+abbrev ruleField : Rule → List ℕ
+ruleField rule = fieldBytes rule-tag (ruleBytes rule)
+
+through-rule : (catalogue : List Rule) (rule : Rule) → length catalogue < most-rules → Recordable rule
+    → ¬ List·Memᴰ rule catalogue → Through (rulesOnly catalogue) (ruleField rule) (rulesOnly (catalogue ++ (rule ∷ [])))
+unfolding nextTags mem lengthFits withField withRule
+through-rule catalogue rule few h n =
+    let long = length-rule rule in
+    through-field (rulesOnly catalogue) rule-tag (ruleBytes rule) (omega arith) (omega arith) refl
+    (lt-leb most-rules (length catalogue) few) (rw long) (rw (rule-reads catalogue rule h n))
+
+unlike-before : (u : List Rule) (rule : Rule) (v : List Rule) → Unlike (u ++ (rule ∷ v)) → ¬ List·Memᴰ rule u
+unlike-before [] rule v d h = List·Memᴰ·not-nil h
+unlike-before (first ∷ u) rule v d h =
+    ⊎-elim (λ e. d .0 (Memᴰ·append-right u (List·Memᴰ·head (sym e)))) (λ t. unlike-before u rule v (d .1) t)
+    (List·Memᴰ·cases-cons h)
+
+-- the next rule of a catalogue
+next-recordable : (done : List Rule) (rule : Rule) (rest : List Rule) → Catalogue (done ++ (rule ∷ rest)) → Recordable rule
+next-recordable done rule rest h = h .recordable rule (Memᴰ·append-right done (List·Memᴰ·head refl))
+
+through-rules : (done rest : List Rule) → Catalogue (done ++ rest)
+    → Through (rulesOnly done) (joined (map ruleField rest)) (rulesOnly (done ++ rest))
+unfolding joined
+through-rules done [] h = rw (append-nil done) through-none
+through-rules done (rule ∷ rest) h =
+    through-both
+    (through-rule done rule (omega (arith, length-append done (rule ∷ rest), h .few)) (next-recordable done rule rest h)
+    (unlike-before done rule rest (h .unlike)))
+    (rw append-assoc at (through-rules (done ++ (rule ∷ [])) rest (rw append-assoc h)))
+
+-- the other fields, where they are there, behind the catalogue
+module _ (c : List Rule) (few : length c ≤ most-rules) where
+  through-initial : (initial : Option (List ℕ)) → IfThere (Listed (length c)) initial
+      → Through (rulesOnly c) (ifThere initial-tag numbersBytes initial) (fields c initial none none none)
+  unfolding ifThere nextTags mem lengthFits withField withInitial
+  through-initial none h = through-none
+  through-initial (some policy) h =
+      through-field (rulesOnly c) initial-tag (numbersBytes policy) (omega arith) (omega (arith, length-numbers policy, h .few))
+      refl refl (list-fits policy (h .few)) (rw (policy-reads (length c) policy few h))
+
+  through-target : (initial target : Option (List ℕ)) → IfThere (λ policy. There initial × Listed (length c) policy) target
+      → Through (fields c initial none none none) (ifThere target-tag numbersBytes target) (fields c initial target none none)
+  unfolding ifThere nextTags mem lengthFits withField withTarget
+  through-target initial none h = through-none
+  through-target none (some policy) h = absurd (h .0)
+  through-target (some initial) (some policy) h =
+      through-field (fields c (some initial) none none none) target-tag (numbersBytes policy) (omega arith)
+      (omega (arith, length-numbers policy, h .1 .few)) refl refl (list-fits policy (h .1 .few))
+      (rw (policy-reads (length c) policy few (h .1)))
+
+  through-keep : (initial target keep : Option (List ℕ)) → IfThere (λ policy. There initial × Listed (length c) policy) target
+      → IfThere (λ keep. There target × Sublistᴰ keep (listed initial) × Sublistᴰ keep (listed target)) keep
+      → Through (fields c initial target none none) (ifThere keep-tag numbersBytes keep) (fields c initial target keep none)
+  unfolding ifThere nextTags mem lengthFits withField withKeep listed
+  through-keep initial target none h k = through-none
+  through-keep initial none (some keep) h k = absurd (k .0)
+  through-keep initial (some target) (some keep) h k =
+      let short = keep-few (length c) target keep (h .1) (k .2) in
+      through-field (fields c initial (some target) none none) keep-tag (numbersBytes keep) (omega arith)
+      (omega (arith, length-numbers keep)) refl refl (list-fits keep short)
+      (rw (keep-reads (length c) (listed initial) target keep few (h .1) (k .1) (k .2)))
+
+  through-script : (initial target keep : Option (List ℕ)) (script : Option Script)
+      → IfThere (λ script. There target × Scripted script) script
+      → Through (fields c initial target keep none) (ifThere script-tag scriptBytes script) (fields c initial target keep script)
+  unfolding ifThere nextTags mem lengthFits withField withScript
+  through-script initial target keep none h = through-none
+  through-script initial none keep (some script) h = absurd (h .0)
+  through-script initial (some target) keep (some script) h =
+      through-field (fields c initial (some target) keep none) script-tag (scriptBytes script) (omega arith)
+      (omega (arith, length-script script, h .1 .few)) (stands keep) refl (or-left false (script-fits script (h .1)))
+      (rw (script-reads script (h .1)))
+    where
+      stands : (keep : Option (List ℕ)) → mem script-tag (nextTags (fields c initial (some target) keep none)) ≡ true
+      stands none = refl
+      stands (some keep) = refl
+
+-- the bytes of fields that can have been read lead the reader to those fields
+pub through-fields : (f : Fields) → Readable f → Through nothing (fieldsBytes f) f
+unfolding fieldsBytes nothing
+through-fields f h =
+    let c = f .catalogue in
+    let few = h .catalogue .few in
+    through-both (through-rules [] c (h .catalogue))
+    (through-both (through-initial c few (f .initial) (h .initial))
+    (through-both (through-target c few (f .initial) (f .target) (h .target))
+    (through-both (through-keep c few (f .initial) (f .target) (f .keep) (h .target) (h .keep))
+    (through-script c few (f .initial) (f .target) (f .keep) (f .script) (h .script)))))
+
+pub read-through : (f : Fields) (left : List ℕ) → Readable f
+    → readFrom 0 nothing 0 (fieldsBytes f ++ left) ≡ readFrom 0 f (length (fieldsBytes f)) left
+read-through f left h = rw (zero-add (length (fieldsBytes f))) at (through-fields f h .reads 0 left)
+
+-- The file of valid contents.
+field-are-bytes : (tag : ℕ) (value : List ℕ) → AreBytes value → AreBytes (fieldBytes tag value)
+unfolding fieldBytes
+field-are-bytes tag value h =
+    are-bytes-append _ _ (bytes-are-bytes 1 tag) (are-bytes-append _ _ (bytes-are-bytes 2 (length value)) h)
+
+there-are-bytes : {A : Type 0} (tag : ℕ) (written : A → List ℕ) (o : Option A) → ((a : A) → AreBytes (written a))
+    → AreBytes (ifThere tag written o)
+unfolding ifThere
+there-are-bytes tag written none h = λ b t. absurd (List·Memᴰ·not-nil t)
+there-are-bytes tag written (some a) h = field-are-bytes tag (written a) (h a)
+
+rules-are-bytes : (catalogue : List Rule) → AreBytes (joined (map ruleField catalogue))
+rules-are-bytes catalogue =
+    are-bytes-joined (map ruleField catalogue)
+    (λ piece t.
+    let at = Memᴰ·of-map ruleField catalogue t in
+    rw (← at .2) (field-are-bytes rule-tag (ruleBytes (at .0)) (rule-are-bytes (at .0))))
+
+pub file-are-bytes : (c : Contents) → AreBytes (fileOf c)
+unfolding fileOf
+file-are-bytes c =
+    are-bytes-append _ _ (rules-are-bytes (c .catalogue))
+    (are-bytes-append _ _ (field-are-bytes initial-tag (numbersBytes (c .initial)) (numbers-are-bytes (c .initial)))
+    (are-bytes-append _ _ (field-are-bytes target-tag (numbersBytes (c .target)) (numbers-are-bytes (c .target)))
+    (are-bytes-append _ _ (there-are-bytes keep-tag numbersBytes (c .keep) numbers-are-bytes)
+    (there-are-bytes script-tag scriptBytes (c .script) script-are-bytes))))
+
+-- the fields of contents, and that they can have been read
+unfoldable pub fieldsOf : Contents → Fields
+fieldsOf c = fields (c .catalogue) (some (c .initial)) (some (c .target)) (c .keep) (c .script)
+
+pub valid-readable : (c : Contents) → Valid c → Readable (fieldsOf c)
+unfolding fieldsOf listed
+valid-readable c h =
+    record {
+      catalogue = h .catalogue;
+      initial = h .initial;
+      target = (tt, h .target);
+      keep = kept (c .initial) (c .target) (c .keep) (h .keep);
+      script = scripted (c .script) (h .script);
+    }
+  where
+    kept : (initial target : List ℕ) (keep : Option (List ℕ)) → Keepable initial target keep
+        → IfThere (λ keep. Unit {0} × Sublistᴰ keep initial × Sublistᴰ keep target) keep
+    kept initial target none k = tt
+    kept initial target (some keep) k = (tt, k .0, k .1)
+
+    scripted : (script : Option Script) → IfThere Scripted script → IfThere (λ script. Unit {0} × Scripted script) script
+    scripted none k = tt
+    scripted (some script) k = (tt, k)
+
+file-fields : (c : Contents) → fileOf c ≡ fieldsBytes (fieldsOf c)
+unfolding fileOf fieldsBytes fieldsOf ifThere
+file-fields c = refl
+
+pub read-back : ReadBack
+unfolding readFile readFrom atEnd listed fieldsOf
+read-back c h = (
+  file-are-bytes c,
+  ap (readFrom 0 nothing 0) (file-fields c ∙ sym (append-nil (fieldsBytes (fieldsOf c))))
+      ∙ read-through (fieldsOf c) [] (valid-readable c h),
+)
+
+-- "An accepted file never exceeds 44,045 bytes": 1,024 rules of 30, two policies and a keep list of 1,027, a script of 10,244.
+rules-length : (catalogue : List Rule) → length (joined (map ruleField catalogue)) ≡ 30 * length catalogue
+rules-length catalogue =
+    length-joined 30 (map ruleField catalogue)
+    (λ piece t.
+    let at = Memᴰ·of-map ruleField catalogue t in
+    rw (← at .2) (omega (arith, length-field rule-tag (ruleBytes (at .0)), length-rule (at .0))))
+    ∙ ap (λ (n : ℕ). 30 * n) (length-map catalogue ruleField)
+
+keep-length : (size : ℕ) (initial target : List ℕ) (keep : Option (List ℕ)) → Listed size initial → Keepable initial target keep
+    → length (ifThere keep-tag numbersBytes keep) ≤ 1027
+unfolding ifThere
+keep-length size initial target none h k = omega arith
+keep-length size initial target (some keep) h k =
+    omega (arith, length-field keep-tag (numbersBytes keep), length-numbers keep, keep-few size initial keep h (k .0))
+
+script-length : (script : Option Script) → IfThere Scripted script → length (ifThere script-tag scriptBytes script) ≤ 10244
+unfolding ifThere
+script-length none h = omega arith
+script-length (some script) h = omega (arith, length-field script-tag (scriptBytes script), length-script script, h .few)
+
+pub valid-fits : (c : Contents) → Valid c → length (fileOf c) ≤ 44045
+unfolding fileOf
+valid-fits c h =
+    let rules = joined (map ruleField (c .catalogue)) in
+    let initial = fieldBytes initial-tag (numbersBytes (c .initial)) in
+    let target = fieldBytes target-tag (numbersBytes (c .target)) in
+    let keep = ifThere keep-tag numbersBytes (c .keep) in
+    let script = ifThere script-tag scriptBytes (c .script) in
+    omega (
+      arith,
+      length-append rules (initial ++ (target ++ (keep ++ script))),
+      length-append initial (target ++ (keep ++ script)),
+      length-append target (keep ++ script),
+      length-append keep script,
+      rules-length (c .catalogue),
+      h .catalogue .few,
+      length-field initial-tag (numbersBytes (c .initial)),
+      length-numbers (c .initial),
+      h .initial .few,
+      length-field target-tag (numbersBytes (c .target)),
+      length-numbers (c .target),
+      h .target .few,
+      keep-length (length (c .catalogue)) (c .initial) (c .target) (c .keep) (h .initial) (h .keep),
+      script-length (c .script) (h .script),
+    )
+
+-- The field values of valid contents.
+rules-back : (done rest : List Rule) → Catalogue (done ++ rest) → rulesRead done (map ruleBytes rest) ≡ good (done ++ rest)
+unfolding rulesRead
+rules-back done [] h = rw (append-nil done)
+rules-back done (rule ∷ rest) h =
+    rw (rule-reads done rule (next-recordable done rule rest h) (unlike-before done rule rest (h .unlike)))
+    (rw append-assoc at (rules-back (done ++ (rule ∷ [])) rest (rw append-assoc h)))
+
+catalogue-back : (catalogue : List Rule) → Catalogue catalogue
+    → catalogueValue (joined (map ruleBytes catalogue)) ≡ good catalogue
+unfolding catalogueValue
+catalogue-back catalogue h =
+    let value : List ℕ = joined (map ruleBytes catalogue) in
+    let wide : (piece : List ℕ) → List·Memᴰ piece (map ruleBytes catalogue) → length piece ≡ 27 =
+    λ piece t. let at = Memᴰ·of-map ruleBytes catalogue t in rw (← at .2) (length-rule (at .0)) in
+    let long : length value ≡ 27 * length catalogue =
+    length-joined 27 (map ruleBytes catalogue) wide ∙ ap (λ (n : ℕ). 27 * n) (length-map catalogue ruleBytes) in
+    let few : length catalogue ≤ 1024 = h .few in
+    let whole : eqb (length value % 27) 0 ≡ true = eq-eqb (length value % 27) 0 (omega arith) in
+    let short : leb (length value) 27648 ≡ true = le-leb (length value) 27648 (omega arith) in
+    let counted : length value / 27 ≡ length catalogue = omega arith in
+    let pieces : chunks 27 (length catalogue) value ≡ map ruleBytes catalogue =
+    rw length-map at (chunks-joined 27 (map ruleBytes catalogue) wide) in
+    rw (whole, short, counted, pieces) (rules-back [] catalogue h)
+
+keep-back : (size : ℕ) (initial target : List ℕ) (keep : Option (List ℕ)) → size ≤ most-rules → Listed size target
+    → Keepable initial target keep
+    → keepValue initial target (elim keep [ none ↦ none | some keep ↦ some (numbersBytes keep) ]) ≡ good keep
+unfolding keepValue
+keep-back size initial target none few h k = refl
+keep-back size initial target (some keep) few h k =
+    rw (list-fits keep (keep-few size target keep h (k .1)), keep-reads size initial target keep few h (k .0) (k .1))
+
+script-back : (script : Option Script) → IfThere Scripted script
+    → scriptValue (elim script [ none ↦ none | some script ↦ some (scriptBytes script) ]) ≡ good script
+unfolding scriptValue
+script-back none h = refl
+script-back (some script) h = rw (script-fits script h, script-reads script h)
+
+pub values-read-back : ValuesReadBack
+unfolding readValues valuesRead atZero valuesOf policyValue
+values-read-back c h =
+    let few = h .catalogue .few in
+    let size = length (c .catalogue) in
+    rw (
+      catalogue-back (c .catalogue) (h .catalogue),
+      list-fits (c .initial) (h .initial .few),
+      policy-reads size (c .initial) few (h .initial),
+      list-fits (c .target) (h .target .few),
+      policy-reads size (c .target) few (h .target),
+      keep-back size (c .initial) (c .target) (c .keep) few (h .target) (h .keep),
+      script-back (c .script) (h .script),
+    )

@@ -1,0 +1,348 @@
+-- The reader against the table of refusals and the writer: whatever it answers is right, and what a row of the table names is its
+-- answer. The idea: induction on the bytes that are left, a field at a time. Assumes nothing.
+use Prim.Native.Nat.{ℕ, zero, suc, _+_, _-_, _≤_, _<_, zero-le}
+use native.Mathlib.Omega.{arith}
+use mathlib.Core.Path.{_≡_, refl, sym, _∙_, ap, subst}
+use mathlib.Core.Bool.{Bool, true, false, not, _&&_}
+use mathlib.Core.Logic.{⊎-elim}
+use mathlib.Core.List.{List, [], _∷_, _++_, append-nil, List·Memᴰ·not-nil, Sublistᴰ}
+use mathlib.Core.Option.{Option, none, some}
+use lib.ListN.{length, drop, length-append, length-drop}
+use lib.Dec.{eqb, leb}
+use Rattle.policy.specs.Lists.{mem}
+use Rattle.policy.specs.Policy.{most-rules}
+use Rattle.policy.specs.Rule.{Rule}
+use Rattle.policy.specs.Claims.{Keepable}
+use Rattle.deployment.specs.Checked.{Checked, good, bad, _>>=_, whyNumber}
+use Rattle.deployment.specs.Bytes.{joined}
+use Rattle.deployment.specs.Contents.{Contents, ruleRead, policyRead, keepRead, scriptRead}
+use Rattle.deployment.specs.File.{
+  Fields,
+  nothing,
+  listed,
+  nextTags,
+  lengthFits,
+  Field,
+  fieldRead,
+  withRule,
+  withInitial,
+  withTarget,
+  withKeep,
+  withScript,
+  withField,
+  Reading,
+  accepted,
+  refused,
+  atEnd,
+  readFrom,
+  readFile,
+  needsScript,
+  readToJudge,
+  ifThere,
+  fileOf,
+  rule-tag,
+  initial-tag,
+  target-tag,
+  keep-tag,
+  head-bytes,
+}
+use Rattle.deployment.specs.Properties.{
+  AreBytes,
+  Valid,
+  IfThere,
+  There,
+  Readable,
+  fieldsBytes,
+  tagOf,
+  sizeOf,
+  valueOf,
+  Whole,
+  FieldFails,
+  TurnedAway,
+}
+use Rattle.deployment.specs.Claims.{WrittenAgain, Refused, RefusedWithoutScript, AcceptedFileFits}
+use Rattle.deployment.specs.declared.Why.{Why}
+use Rattle.deployment.specs.declared.Why.the-variants.{
+  Cut,
+  Tag,
+  NoTarget,
+  Length,
+  Bounds,
+  Equal,
+  TooMany,
+  Outside,
+  Twice,
+  Keep,
+  Coding,
+  NoScript,
+  Room,
+}
+use Rattle.deployment.specs.declared.Refusal.{Refusal}
+use Rattle.deployment.proofs.Bytes.{are-bytes-drop, length-part}
+use Rattle.deployment.proofs.Values.{byOption}
+use Rattle.deployment.proofs.Tests.{Each, each-then, tested, rule-tested, policy-tested, keep-tested, script-tested}
+use Rattle.deployment.proofs.Fields.{
+  Stage,
+  at-rules,
+  at-initial,
+  at-target,
+  at-keep,
+  at-script,
+  stage,
+  ValueRight,
+  taken,
+  whole-read,
+  taken-right,
+  fails-taken,
+}
+use Rattle.deployment.proofs.ReadBack.{pass-over, read-through, valid-fits}
+
+-- One field: turned away, or read, and then what is left behind it.
+read-by {ℓ} : (Right : Reading → Type ℓ) (f : Fields) (at x : ℕ) (l : List ℕ)
+    → ((why : Why) → taken f (x ∷ l) ≡ bad why → Right (refused (record { why = why; at = at })))
+    → ((field : Field) (g : Fields) → fieldRead f (x ∷ l) ≡ good field → taken f (x ∷ l) ≡ good g
+    → Right (readFrom (2 + length (field .value)) g (suc at) l))
+    → Right (readFrom 0 f at (x ∷ l))
+unfolding readFrom
+read-by Right f at x l turned passed = head (fieldRead f (x ∷ l)) refl
+  where
+    value : (field : Field) (read : Checked Fields) → fieldRead f (x ∷ l) ≡ good field → withField f field ≡ read
+        → Right (readFrom 0 f at (x ∷ l))
+    value field (bad why) h e = rw (h, readFrom, e) (turned why (rw (h, e)))
+    value field (good g) h e = rw (h, readFrom, e) (passed field g h (rw (h, e)))
+
+    head : (read : Checked Field) → fieldRead f (x ∷ l) ≡ read → Right (readFrom 0 f at (x ∷ l))
+    head (bad why) h = rw (h, readFrom) (turned why (rw h))
+    head (good field) h = value field (withField f field) h refl
+
+-- the bytes of a field that is whole are passed over
+passed-over : {f : Fields} (s : Stage f) (field : Field) (g : Fields) (at x : ℕ) (l : List ℕ)
+    → Whole f (x ∷ l) → fieldRead f (x ∷ l) ≡ good field
+    → readFrom (2 + length (field .value)) g (suc at) l
+    ≡ readFrom 0 g (at + (head-bytes + sizeOf (x ∷ l))) (drop (head-bytes + sizeOf (x ∷ l)) (x ∷ l))
+passed-over s field g at x l whole e =
+    let size = sizeOf (x ∷ l) in
+    let known = whole-read s (x ∷ l) whole in
+    let same : field ≡ record { tag = tagOf (x ∷ l); value = valueOf (x ∷ l) } = cc in
+    let long : length (field .value) ≡ size =
+    ap (λ (f : Field). length (f .value)) same ∙ length-part head-bytes size (x ∷ l) (whole .1) in
+    let past : head-bytes + size ≡ suc (2 + size) = omega arith in
+    let position : at + suc (2 + size) ≡ suc at + (2 + size) = omega arith in
+    rw (long, past, position) (pass-over (2 + size) g (suc at) l (omega (arith, whole .1)))
+
+-- What is right of a reading: accepted contents are valid and are written as the file, a refusal is a row of the table.
+abbrev pub ReadingRight : List ℕ → Reading → Type 0
+ReadingRight file (accepted c) = Valid c × (fileOf c ≡ file)
+ReadingRight file (refused refusal) = TurnedAway file (refusal .why) (refusal .at)
+
+turned-away : (f : Fields) (left : List ℕ) (why : Why) → Readable f → FieldFails f left why
+    → TurnedAway (fieldsBytes f ++ left) why (length (fieldsBytes f))
+turned-away f left why r fails = record { fields = f; left = left; is = refl; readable = r; counted = refl; fails = fails }
+
+keepable : (i t : List ℕ) (keep : Option (List ℕ)) → IfThere (λ k. There (some t) × Sublistᴰ k i × Sublistᴰ k t) keep
+    → Keepable i t keep
+keepable i t none h = tt
+keepable i t (some k) h = (h .1, h .2)
+
+end-right : (f : Fields) → Stage f → Readable f → ReadingRight (fieldsBytes f ++ []) (atEnd f (length (fieldsBytes f)))
+unfolding atEnd fieldsBytes ifThere fileOf listed
+end-right f (at-rules c) r = turned-away f [] NoTarget r (refl, λ h. h)
+end-right f (at-initial c i) r = turned-away f [] NoTarget r (refl, λ h. h)
+end-right f (at-target c i t) r = (
+  record { catalogue = r .catalogue; initial = r .initial; target = r .target .1; keep = tt; script = tt },
+  sym (append-nil (fieldsBytes f)),
+)
+end-right f (at-keep c i t k) r = (
+  record {
+    catalogue = r .catalogue;
+    initial = r .initial;
+    target = r .target .1;
+    keep = keepable i t (some k) (r .keep);
+    script = tt;
+  },
+  sym (append-nil (fieldsBytes f)),
+)
+end-right f (at-script c i t keep s) r = (
+  record {
+    catalogue = r .catalogue;
+    initial = r .initial;
+    target = r .target .1;
+    keep = keepable i t keep (r .keep);
+    script = r .script .1;
+  },
+  sym (append-nil (fieldsBytes f)),
+)
+
+-- a reading that goes on is right where every later one is: a field is turned away, or is passed and its bytes join those so far
+abbrev pub RightFrom : Fields → List ℕ → Type 0
+RightFrom f left = ReadingRight (fieldsBytes f ++ left) (readFrom 0 f (length (fieldsBytes f)) left)
+
+by-rest : (f : Fields) (left : List ℕ) → Readable f → AreBytes left
+    → ((g : Fields) (rest : List ℕ) → length rest < length left → Readable g → AreBytes rest → RightFrom g rest) → RightFrom f left
+unfolding readFrom
+by-rest f [] r b others = end-right f (stage f r) r
+by-rest f (x ∷ l) r b others =
+    let s = stage f r in
+    let right : ValueRight f (x ∷ l) (taken f (x ∷ l)) = taken-right s (x ∷ l) r b (omega arith) in
+    read-by (ReadingRight (fieldsBytes f ++ (x ∷ l))) f (length (fieldsBytes f)) x l
+    (λ why e. turned-away f (x ∷ l) why r (subst (ValueRight f (x ∷ l)) e right))
+    λ field g h e.
+    let more : ValueRight f (x ∷ l) (good g) = subst (ValueRight f (x ∷ l)) e right in
+    let past = head-bytes + sizeOf (x ∷ l) in
+    let rest = drop past (x ∷ l) in
+    let behind : length rest ≡ length (x ∷ l) - past = length-drop past (x ∷ l) in
+    let position : length (fieldsBytes g) ≡ length (fieldsBytes f) + past =
+    omega (arith, length-append (fieldsBytes g) rest, length-append (fieldsBytes f) (x ∷ l), ap length (more .2), more .0 .1) in
+    rw (passed-over s field g (length (fieldsBytes f)) x l (more .0) h, ← position, ← more .2)
+    (others g rest (omega arith) (more .1) (are-bytes-drop past (x ∷ l) b))
+
+pub reading-right : (n : ℕ) (f : Fields) (left : List ℕ) → length left ≤ n → Readable f → AreBytes left → RightFrom f left
+reading-right zero f left h r b = by-rest f left r b (λ g rest shorter. absurd (omega arith))
+reading-right (suc n) f left h r b = by-rest f left r b (λ g rest shorter. reading-right n g rest (omega arith))
+
+nothing-readable : Readable nothing
+unfolding nothing
+nothing-readable =
+    record {
+      catalogue = record { few = zero-le; recordable = λ rule h. absurd (List·Memᴰ·not-nil h); unlike = tt };
+      initial = tt;
+      target = tt;
+      keep = tt;
+      script = tt;
+    }
+
+pub file-right : (file : List ℕ) → AreBytes file → ReadingRight file (readFile file)
+unfolding readFile nothing fieldsBytes ifThere joined
+file-right file b = reading-right (length file) nothing file (omega arith) nothing-readable b
+
+pub written-again : WrittenAgain
+written-again file c b e = subst (ReadingRight file) e (file-right file b)
+
+pub accepted-file-fits : AcceptedFileFits
+accepted-file-fits file c b e =
+    let right = written-again file c b e in rw (← right .1) (valid-fits c (right .0))
+
+-- what fails at the end of the file is that no target is there
+fails-at-end : (f : Fields) (why : Why) → FieldFails f [] why → (why ≡ NoTarget) × ¬ There (f .target)
+fails-at-end f Cut h = absurd (⊎-elim (λ h. omega arith) (λ h. omega arith) h)
+fails-at-end f Tag h = absurd (omega arith)
+fails-at-end f NoTarget h = (refl, h .1)
+fails-at-end f Length h = absurd (omega arith)
+fails-at-end f Bounds h = absurd (omega arith)
+fails-at-end f Equal h = absurd (omega arith)
+fails-at-end f TooMany h = absurd (omega arith)
+fails-at-end f Outside h = absurd (omega arith)
+fails-at-end f Twice h = absurd (omega arith)
+fails-at-end f Keep h = absurd (omega arith)
+fails-at-end f Coding h = absurd (omega arith)
+fails-at-end f NoScript h = absurd h
+fails-at-end f Room h = absurd h
+
+absent : {A : Type 0} (o : Option A) → ¬ There o → o ≡ none
+absent none h = refl
+absent (some a) h = absurd (h tt)
+
+fails-read : (f : Fields) (at : ℕ) (left : List ℕ) (why : Why) → Stage f → FieldFails f left why
+    → readFrom 0 f at left ≡ refused (record { why = why; at = at })
+unfolding readFrom atEnd
+fails-read f at [] why s fails = let last = fails-at-end f why fails in rw (last .0, absent (f .target) (last .1), atEnd)
+fails-read f at (x ∷ l) why s fails =
+    let named = fails-taken s (x ∷ l) why (omega arith) fails in
+    read-by (λ reading. reading ≡ refused (record { why = why; at = at })) f at x l
+    (λ other e. let same : other ≡ why = cc in rw same)
+    λ field g h e. absurd (let z : _≡_ {A = ℕ} 0 1 = cc in omega arith)
+
+pub refusals : Refused
+unfolding readFile
+refusals file why at b = (
+  λ e. subst (ReadingRight file) e (file-right file b),
+  λ h. rw (h .is, h .counted)
+      (read-through (h .fields) (h .left) (h .readable)
+      ∙ fails-read (h .fields) (length (fieldsBytes (h .fields))) (h .left) why (stage (h .fields) (h .readable)) (h .fails)),
+)
+
+-- Refusal 12 is none of the reader's: the numbers of those are below it.
+abbrev Below : Why → Type 0
+Below why = whyNumber why < 12
+
+abbrev AllBelow : {A : Type 0} → Checked A → Type 0
+AllBelow = Each (λ a. Unit {0}) Below
+
+below-then : {A B : Type 0} (read : Checked A) (next : A → Checked B) → AllBelow read → ((a : A) → AllBelow (next a))
+    → AllBelow (_>>=_ read next)
+below-then read next h others = each-then (λ a. Unit {0}) (λ b. Unit {0}) Below read next h (λ a t. others a)
+
+head-below : (f : Fields) (left : List ℕ) → AllBelow (fieldRead f left)
+unfolding fieldRead whyNumber
+head-below f left =
+    tested AllBelow (leb head-bytes (length left)) (λ e. omega arith) λ e.
+    tested AllBelow (mem (tagOf left) (nextTags f)) (λ e. omega arith) λ e.
+    tested AllBelow (not (eqb (tagOf left) rule-tag && leb most-rules (length (f .catalogue)))) (λ e. omega arith) λ e.
+    tested AllBelow (lengthFits (tagOf left) (sizeOf left)) (λ e. omega arith) λ e.
+    tested AllBelow (leb (head-bytes + sizeOf left) (length left)) (λ e. omega arith) λ e. tt
+
+rule-below : (c : List Rule) (value : List ℕ) → AllBelow (ruleRead c value)
+unfolding whyNumber
+rule-below c value = rule-tested AllBelow c value (λ h. omega arith) (λ h k. omega arith) (λ h k. tt)
+
+policy-below : (size : ℕ) (value : List ℕ) → AllBelow (policyRead size value)
+unfolding whyNumber
+policy-below size value = policy-tested AllBelow size value (λ h. omega arith) (λ h k. omega arith) (λ h. tt)
+
+keep-below : (i t value : List ℕ) → AllBelow (keepRead i t value)
+unfolding whyNumber
+keep-below i t value = keep-tested AllBelow i t value (λ h. omega arith) (λ h k. tt)
+
+script-below : (value : List ℕ) → AllBelow (scriptRead value)
+unfolding whyNumber
+script-below value = script-tested AllBelow value (λ h. omega arith) (λ s h. tt)
+
+branch {ℓ} : {A : Type 0} (P : A → Type ℓ) (test : Bool) {x y : A} → P x → P y → P (elim test [ true ↦ x | false ↦ y ])
+branch P true p q = p
+branch P false p q = q
+
+value-below : (f : Fields) (field : Field) → AllBelow (withField f field)
+unfolding withField withRule withInitial withTarget withKeep withScript
+value-below f field =
+    let value = field .value in
+    let c = f .catalogue in
+    let size = length c in
+    let i = listed (f .initial) in
+    let t = listed (f .target) in
+    branch AllBelow (eqb (field .tag) rule-tag) (below-then (ruleRead c value) _ (rule-below c value) (λ a. tt))
+    (branch AllBelow (eqb (field .tag) initial-tag) (below-then (policyRead size value) _ (policy-below size value) (λ a. tt))
+    (branch AllBelow (eqb (field .tag) target-tag) (below-then (policyRead size value) _ (policy-below size value) (λ a. tt))
+    (branch AllBelow (eqb (field .tag) keep-tag) (below-then (keepRead i t value) _ (keep-below i t value) (λ a. tt))
+    (below-then (scriptRead value) _ (script-below value) (λ a. tt)))))
+
+abbrev ReadsBelow : Reading → Type 0
+ReadsBelow (accepted c) = Unit {0}
+ReadsBelow (refused refusal) = Below (refusal .why)
+
+reading-below : (n : ℕ) (f : Fields) (at : ℕ) (left : List ℕ) → ReadsBelow (readFrom n f at left)
+unfolding readFrom atEnd whyNumber
+reading-below n f at [] = byOption (f .target) (λ e. rw (e, atEnd) (omega arith)) (λ t e. rw (e, atEnd) tt)
+reading-below (suc n) f at (x ∷ l) = reading-below n f (suc at) l
+reading-below zero f at (x ∷ l) =
+    read-by ReadsBelow f at x l
+    (λ why e. subst AllBelow e (below-then (fieldRead f (x ∷ l)) _ (head-below f (x ∷ l)) (value-below f)))
+    (λ field g h e. reading-below (2 + length (field .value)) g (suc at) l)
+
+refused-at : {one other : Refusal} → refused one ≡ refused other → one ≡ other
+refused-at e = cc
+
+pub refused-without-script : RefusedWithoutScript
+unfolding readToJudge needsScript readFile whyNumber
+refused-without-script file at = (
+  λ e. go (readFile file) refl e (reading-below 0 nothing 0 file),
+  λ h. rw (h .1, h .2, needsScript, h .3),
+)
+  where
+    go : (reading : Reading) → readFile file ≡ reading
+        → needsScript (length file) reading ≡ refused (record { why = NoScript; at = at })
+        → ReadsBelow reading → (c : Contents) × (readFile file ≡ accepted c) × (c .script ≡ none) × (at ≡ length file)
+    go (refused refusal) h e below = absurd (omega (arith, subst (λ (r : Refusal). Below (r .why)) (refused-at e) below))
+    go (accepted c) h e below =
+        byOption (c .script)
+        (λ absent. (c, h, absent, ap (λ (r : Refusal). r .at) (refused-at (sym (rw (absent, needsScript) at e)))))
+        (λ s there. absurd (let other = rw (there, needsScript) at e in let z : _≡_ {A = ℕ} 0 1 = cc in omega arith))

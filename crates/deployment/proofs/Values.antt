@@ -1,0 +1,672 @@
+-- The values of fields, read and written: what is written reads back as the same rule, list or script, and what is read from
+-- bytes of the right length writes those bytes. The idea: a value is parts of fixed widths one after another, and each part is a
+-- number. Assumes nothing.
+use Prim.Native.Nat.{ℕ, _+_, _*_, _-_, _/_, _≤_, _<_}
+use native.Mathlib.Nat.{mul-div-cancel-left}
+use native.Mathlib.Omega.{arith}
+use mathlib.Core.Path.{_≡_, refl, sym, _∙_, ap}
+use mathlib.Core.Bool.{Bool, true, false, _&&_, _||_}
+use mathlib.Core.Logic.{_⊎_, inl, inr, ⊎-elim}
+use mathlib.Core.Option.{Option, none, some}
+use mathlib.Core.List.{
+  List,
+  [],
+  _∷_,
+  _++_,
+  map,
+  append-assoc,
+  append-nil,
+  List·Memᴰ,
+  List·Memᴰ·head,
+  List·Memᴰ·tail,
+  Memᴰ·of-map,
+  List·Memᴰ·cases-cons,
+  List·Memᴰ·not-nil,
+}
+use borrow.Author.Tests.{eqb-true, eqb-false, eq-eqb, leb-true, le-leb}
+use lib.Dec.{eqb, leb, lit<}
+use lib.ListN.{length, drop, length-map, length-drop, drop-of-length-le}
+use Rattle.policy.specs.Policy.{sameAction}
+use Rattle.policy.specs.Rule.{Range, Rule}
+use Rattle.policy.specs.Command.{Coded, coded, commandType}
+use Rattle.policy.specs.declared.Action.{Action}
+use Rattle.policy.specs.declared.Action.the-variants.{Deny, Permit}
+use Rattle.policy.specs.declared.Command.{Command}
+use Rattle.policy.specs.declared.Command.the-variants.{App, DelRule, Ins, DelPlace, Mov}
+use Rattle.policy.proofs.Tests.{byTest, never, and-both, both-and, or-either, or-left, or-right, or-neither, falsely}
+use Rattle.deployment.specs.Bytes.{number, bytesOf, part, chunks}
+use Rattle.deployment.specs.Values.{
+  Script,
+  actionOf,
+  actionNumber,
+  rangeAt,
+  rangeBytes,
+  ruleOf,
+  ruleBytes,
+  rising,
+  ruleFits,
+  sameRange,
+  sameRule,
+  known,
+  numbersOf,
+  numbersBytes,
+  commandFrom,
+  codedOf,
+  codedBytes,
+  everyCommand,
+  commandChunks,
+  scriptOf,
+  scriptBytes,
+}
+use Rattle.deployment.specs.Properties.{AreBytes, Sized, Recordable, Scripted, RightScript, NoCommand, WrongCoding}
+use Rattle.deployment.proofs.Bytes.{
+  are-bytes-append,
+  are-bytes-drop,
+  length-bytes,
+  bytes-are-bytes,
+  number-bytes,
+  bytes-number,
+  part-rest,
+  part-written,
+  part-fits,
+  chunks-joined,
+  joined-chunks,
+  chunk-length,
+  length-joined,
+  length-chunks,
+  are-bytes-chunk,
+  are-bytes-joined,
+}
+
+-- a value is absent or there: each case gets the equation
+pub byOption {ℓ} : {A : Type 0} {B : Type ℓ} (o : Option A) → (o ≡ none → B) → ((a : A) → o ≡ some a → B) → B
+byOption none absent there = absent refl
+byOption (some a) absent there = there a refl
+
+pub none-some {ℓ} : {A : Type 0} {B : Type ℓ} {a : A} → none ≡ some a → B
+none-some {a} e = absurd (let z : _≡_ {A = ℕ} 0 1 = cc in omega arith)
+
+-- there and back again, at every element
+pub map-back : {A B : Type 0} (f : A → B) (g : B → A) (l : List A) → ((a : A) → List·Memᴰ a l → g (f a) ≡ a) → map g (map f l) ≡ l
+map-back f g [] h = refl
+map-back f g (a ∷ l) h =
+    let back = h a (List·Memᴰ·head refl) in
+    let others = map-back f g l (λ b t. h b (List·Memᴰ·tail t)) in
+    cc
+
+-- six tests
+six-and : (a b c d e f : Bool) → (a && b && c && d && e && f) ≡ true
+    → (a ≡ true) × (b ≡ true) × (c ≡ true) × (d ≡ true) × (e ≡ true) × (f ≡ true)
+six-and a b c d e f h =
+    let p = and-both (a && b && c && d && e) f h in
+    let q = and-both (a && b && c && d) e (p .0) in
+    let r = and-both (a && b && c) d (q .0) in
+    let s = and-both (a && b) c (r .0) in
+    let t = and-both a b (s .0) in
+    (t .0, t .1, s .1, r .1, q .1, p .1)
+
+and-six : {a b c d e f : Bool} → a ≡ true → b ≡ true → c ≡ true → d ≡ true → e ≡ true → f ≡ true
+    → (a && b && c && d && e && f) ≡ true
+and-six p q r s t u = both-and (both-and (both-and (both-and (both-and p q) r) s) t) u
+
+-- Rules. The action is a number up to 1.
+pub action-read : (a : Action) → actionOf (actionNumber a) ≡ a
+unfolding actionOf actionNumber
+action-read Deny = refl
+action-read Permit = refl
+
+pub action-written : (n : ℕ) → n ≤ 1 → actionNumber (actionOf n) ≡ n
+unfolding actionOf actionNumber
+action-written n h = byTest (eqb n 1) (λ t. rw t (sym (eqb-true n 1 t))) (λ f. rw f (omega (arith, eqb-false n 1 f)))
+
+action-small : (a : Action) → actionNumber a ≤ 1
+unfolding actionNumber
+action-small Deny = omega arith
+action-small Permit = omega arith
+
+-- A range stands where the parts are its two numbers.
+range-read : (start width : ℕ) (value : List ℕ) (range : Range) → Sized width range
+    → part start width value ≡ bytesOf width (range .low) → part (start + width) width value ≡ bytesOf width (range .high)
+    → rangeAt start width value ≡ range
+unfolding rangeAt
+range-read start width value range h p q =
+    let low : number (part start width value) ≡ range .low = ap number p ∙ number-bytes width (range .low) (omega arith) in
+    let high : number (part (start + width) width value) ≡ range .high =
+    ap number q ∙ number-bytes width (range .high) (h .fits) in
+    λ i. record { low = low i; high = high i }
+
+range-written : (start width : ℕ) (value : List ℕ) → AreBytes value → start + width + width ≤ length value
+    → rangeBytes width (rangeAt start width value) ++ drop (start + width + width) value ≡ drop start value
+unfolding rangeAt rangeBytes
+range-written start width value h fits =
+    rw (
+      part-written start width value h (omega arith),
+      part-written (start + width) width value h fits,
+      append-assoc,
+      part-rest (start + width) width value,
+      part-rest start width value,
+    )
+
+range-sized : (start width : ℕ) (value : List ℕ) → AreBytes value → start + width + width ≤ length value
+    → rising (rangeAt start width value) ≡ true → Sized width (rangeAt start width value)
+unfolding rangeAt rising
+range-sized start width value h fits e =
+    record { rises = leb-true _ _ e; fits = part-fits (start + width) width value h fits }
+
+pub length-rule : (rule : Rule) → length (ruleBytes rule) ≡ 27
+unfolding ruleBytes rangeBytes bytesOf
+length-rule rule = refl
+
+range-are-bytes : (width : ℕ) (range : Range) → AreBytes (rangeBytes width range)
+unfolding rangeBytes
+range-are-bytes width range = are-bytes-append _ _ (bytes-are-bytes width (range .low)) (bytes-are-bytes width (range .high))
+
+pub rule-are-bytes : (rule : Rule) → AreBytes (ruleBytes rule)
+unfolding ruleBytes
+rule-are-bytes rule =
+    are-bytes-append _ _ (bytes-are-bytes 1 _)
+    (are-bytes-append _ _ (range-are-bytes 1 _)
+    (are-bytes-append _ _ (range-are-bytes 4 _)
+    (are-bytes-append _ _ (range-are-bytes 2 _)
+    (are-bytes-append _ _ (range-are-bytes 4 _) (range-are-bytes 2 _)))))
+
+module _ (rule : Rule) (h : Recordable rule) where
+  action-at : number (part 0 1 (ruleBytes rule)) ≡ actionNumber (rule .action)
+  unfolding ruleBytes rangeBytes bytesOf part
+  action-at = number-bytes 1 (actionNumber (rule .action)) (omega (arith, action-small (rule .action)))
+
+  protocol-at : rangeAt 1 1 (ruleBytes rule) ≡ rule .protocol
+  unfolding ruleBytes rangeBytes bytesOf part
+  protocol-at = range-read 1 1 (ruleBytes rule) (rule .protocol) (h .protocol) refl refl
+
+  source-at : rangeAt 3 4 (ruleBytes rule) ≡ rule .source
+  unfolding ruleBytes rangeBytes bytesOf part
+  source-at = range-read 3 4 (ruleBytes rule) (rule .source) (h .source) refl refl
+
+  source-port-at : rangeAt 11 2 (ruleBytes rule) ≡ rule .source-port
+  unfolding ruleBytes rangeBytes bytesOf part
+  source-port-at = range-read 11 2 (ruleBytes rule) (rule .source-port) (h .source-port) refl refl
+
+  destination-at : rangeAt 15 4 (ruleBytes rule) ≡ rule .destination
+  unfolding ruleBytes rangeBytes bytesOf part
+  destination-at = range-read 15 4 (ruleBytes rule) (rule .destination) (h .destination) refl refl
+
+  destination-port-at : rangeAt 23 2 (ruleBytes rule) ≡ rule .destination-port
+  unfolding ruleBytes rangeBytes bytesOf part
+  destination-port-at = range-read 23 2 (ruleBytes rule) (rule .destination-port) (h .destination-port) refl refl
+
+  pub rule-read : ruleOf (ruleBytes rule) ≡ rule
+  unfolding ruleOf
+  rule-read =
+      rw (action-at, action-read (rule .action), protocol-at, source-at, source-port-at, destination-at, destination-port-at)
+
+  pub rule-fits : ruleFits (ruleBytes rule) ≡ true
+  unfolding ruleFits rising
+  rule-fits =
+      rw (action-at, protocol-at, source-at, source-port-at, destination-at, destination-port-at)
+      (and-six (le-leb _ _ (action-small (rule .action)))
+      (le-leb _ _ (h .protocol .rises))
+      (le-leb _ _ (h .source .rises))
+      (le-leb _ _ (h .source-port .rises))
+      (le-leb _ _ (h .destination .rises))
+      (le-leb _ _ (h .destination-port .rises)))
+
+rule-tests : (value : List ℕ) → ruleFits value ≡ true
+    → (leb (number (part 0 1 value)) 1 ≡ true) × (rising (rangeAt 1 1 value) ≡ true) × (rising (rangeAt 3 4 value) ≡ true)
+    × (rising (rangeAt 11 2 value) ≡ true) × (rising (rangeAt 15 4 value) ≡ true) × (rising (rangeAt 23 2 value) ≡ true)
+unfolding ruleFits
+rule-tests value fits =
+    six-and (leb (number (part 0 1 value)) 1) (rising (rangeAt 1 1 value)) (rising (rangeAt 3 4 value))
+    (rising (rangeAt 11 2 value)) (rising (rangeAt 15 4 value)) (rising (rangeAt 23 2 value)) fits
+
+-- bytes that fit are those of the rule that they are read as, and a record can hold it
+module _ (value : List ℕ) (h : AreBytes value) (long : length value ≡ 27) (fits : ruleFits value ≡ true) where
+  pub rule-written : ruleBytes (ruleOf value) ≡ value
+  unfolding ruleBytes ruleOf
+  rule-written =
+      let last : rangeBytes 2 (rangeAt 23 2 value) ≡ drop 23 value =
+      sym (append-nil (rangeBytes 2 (rangeAt 23 2 value)))
+      ∙ ap (λ (l : List ℕ). rangeBytes 2 (rangeAt 23 2 value) ++ l) (sym (drop-of-length-le value {i = 27} (omega arith)))
+      ∙ range-written 23 2 value h (omega arith) in
+      rw (
+        action-written (number (part 0 1 value)) (leb-true _ _ (rule-tests value fits .0)),
+        part-written 0 1 value h (omega arith),
+        last,
+        range-written 15 4 value h (omega arith),
+        range-written 11 2 value h (omega arith),
+        range-written 3 4 value h (omega arith),
+        range-written 1 1 value h (omega arith),
+        part-rest 0 1 value,
+      )
+
+  pub rule-recordable : Recordable (ruleOf value)
+  unfolding ruleOf
+  rule-recordable =
+      let tests = rule-tests value fits in
+      record {
+        protocol = range-sized 1 1 value h (omega arith) (tests .1);
+        source = range-sized 3 4 value h (omega arith) (tests .2);
+        source-port = range-sized 11 2 value h (omega arith) (tests .3);
+        destination = range-sized 15 4 value h (omega arith) (tests .4);
+        destination-port = range-sized 23 2 value h (omega arith) (tests .5);
+      }
+
+-- Equal rules.
+same-action-eq : (a b : Action) → sameAction a b ≡ true → a ≡ b
+unfolding sameAction
+same-action-eq Deny Deny e = refl
+same-action-eq Deny Permit e = never e refl
+same-action-eq Permit Deny e = never e refl
+same-action-eq Permit Permit e = refl
+
+same-action-refl : (a : Action) → sameAction a a ≡ true
+unfolding sameAction
+same-action-refl Deny = refl
+same-action-refl Permit = refl
+
+same-range-eq : (a b : Range) → sameRange a b ≡ true → a ≡ b
+unfolding sameRange
+same-range-eq a b e =
+    let both = and-both (eqb (a .low) (b .low)) (eqb (a .high) (b .high)) e in
+    let low : a .low ≡ b .low = eqb-true (a .low) (b .low) (both .0) in
+    let high : a .high ≡ b .high = eqb-true (a .high) (b .high) (both .1) in
+    λ i. record { low = low i; high = high i }
+
+same-range-refl : (a : Range) → sameRange a a ≡ true
+unfolding sameRange
+same-range-refl a = both-and (eq-eqb (a .low) (a .low) refl) (eq-eqb (a .high) (a .high) refl)
+
+pub same-rule-eq : (a b : Rule) → sameRule a b ≡ true → a ≡ b
+unfolding sameRule
+same-rule-eq a b e =
+    let tests =
+    six-and (sameAction (a .action) (b .action)) (sameRange (a .protocol) (b .protocol)) (sameRange (a .source) (b .source))
+    (sameRange (a .source-port) (b .source-port)) (sameRange (a .destination) (b .destination))
+    (sameRange (a .destination-port) (b .destination-port)) e in
+    λ i.
+    record {
+      action = same-action-eq (a .action) (b .action) (tests .0) i;
+      protocol = same-range-eq (a .protocol) (b .protocol) (tests .1) i;
+      source = same-range-eq (a .source) (b .source) (tests .2) i;
+      source-port = same-range-eq (a .source-port) (b .source-port) (tests .3) i;
+      destination = same-range-eq (a .destination) (b .destination) (tests .4) i;
+      destination-port = same-range-eq (a .destination-port) (b .destination-port) (tests .5) i;
+    }
+
+pub same-rule-refl : (a : Rule) → sameRule a a ≡ true
+unfolding sameRule
+same-rule-refl a =
+    and-six (same-action-refl (a .action)) (same-range-refl (a .protocol)) (same-range-refl (a .source))
+    (same-range-refl (a .source-port)) (same-range-refl (a .destination)) (same-range-refl (a .destination-port))
+
+pub known-in : (rule : Rule) (catalogue : List Rule) → known rule catalogue ≡ true → List·Memᴰ rule catalogue
+unfolding known
+known-in rule [] e = never e refl
+known-in rule (earlier ∷ catalogue) e =
+    ⊎-elim (λ t. List·Memᴰ·head (sym (same-rule-eq earlier rule t))) (λ t. List·Memᴰ·tail (known-in rule catalogue t))
+    (or-either (sameRule earlier rule) (known rule catalogue) e)
+
+pub in-known : (rule : Rule) (catalogue : List Rule) → List·Memᴰ rule catalogue → known rule catalogue ≡ true
+unfolding known
+in-known rule [] h = absurd (List·Memᴰ·not-nil h)
+in-known rule (earlier ∷ catalogue) h =
+    ⊎-elim (λ e. or-left {a = sameRule earlier rule} (known rule catalogue) (rw e (same-rule-refl earlier)))
+    (λ t. or-right (sameRule earlier rule) (in-known rule catalogue t))
+    (List·Memᴰ·cases-cons h)
+
+pub not-known : (rule : Rule) (catalogue : List Rule) → ¬ List·Memᴰ rule catalogue → known rule catalogue ≡ false
+not-known rule catalogue h = falsely (λ t. h (known-in rule catalogue t))
+
+-- Lists of rule numbers, two bytes each.
+two-bytes : (numbers : List ℕ) (piece : List ℕ) → List·Memᴰ piece (map (bytesOf 2) numbers) → length piece ≡ 2
+two-bytes numbers piece t = let at = Memᴰ·of-map (bytesOf 2) numbers t in rw (← at .2) (length-bytes 2 (at .0))
+
+pub length-numbers : (numbers : List ℕ) → length (numbersBytes numbers) ≡ 2 * length numbers
+unfolding numbersBytes
+length-numbers numbers =
+    length-joined 2 (map (bytesOf 2) numbers) (two-bytes numbers) ∙ ap (λ (n : ℕ). 2 * n) (length-map numbers (bytesOf 2))
+
+pub numbers-are-bytes : (numbers : List ℕ) → AreBytes (numbersBytes numbers)
+unfolding numbersBytes
+numbers-are-bytes numbers =
+    are-bytes-joined (map (bytesOf 2) numbers)
+    (λ piece t. let at = Memᴰ·of-map (bytesOf 2) numbers t in rw (← at .2) (bytes-are-bytes 2 (at .0)))
+
+-- bytes of the right length: the count of numbers, and the bytes again
+module _ (value : List ℕ) (count : ℕ) (long : length value ≡ 2 * count) where
+  numbers-at : numbersOf value ≡ map number (chunks 2 count value)
+  unfolding numbersOf
+  numbers-at = rw (long, mul-div-cancel-left count (lit< tt))
+
+  pub numbers-count : length (numbersOf value) ≡ count
+  numbers-count = rw numbers-at (length-map (chunks 2 count value) number ∙ length-chunks 2 count value)
+
+  pub numbers-written : AreBytes value → numbersBytes (numbersOf value) ≡ value
+  unfolding numbersBytes
+  numbers-written h =
+      let piece-back : (piece : List ℕ) → List·Memᴰ piece (chunks 2 count value) → bytesOf 2 (number piece) ≡ piece =
+      λ piece t.
+      rw (chunk-length 2 count value long piece t) at (bytes-number piece (are-bytes-chunk 2 count value h piece t)) in
+      rw (numbers-at, map-back number (bytesOf 2) (chunks 2 count value) piece-back) (joined-chunks 2 count value long)
+
+pub numbers-read : (numbers : List ℕ) → ((n : ℕ) → List·Memᴰ n numbers → n < 65536) → numbersOf (numbersBytes numbers) ≡ numbers
+unfolding numbersBytes
+numbers-read numbers h =
+    numbers-at (numbersBytes numbers) (length numbers) (length-numbers numbers)
+    ∙ ap (map number) (rw length-map at (chunks-joined 2 (map (bytesOf 2) numbers) (two-bytes numbers)))
+    ∙ map-back (bytesOf 2) number numbers (λ n t. number-bytes 2 n (h n t))
+
+-- Commands.
+pub command-read : (c : Command) → commandFrom (commandType c) (coded c) ≡ some c
+unfolding commandFrom commandType coded
+command-read (App r) = refl
+command-read (DelRule r) = refl
+command-read (Ins i r) = refl
+command-read (DelPlace i) = refl
+command-read (Mov i j) = refl
+
+-- the command that the definition builds where its tests pass: without a second number, and with one
+abbrev Is : ℕ → Coded → Command → Type 0
+Is type n c = (coded c ≡ n) × (commandType c ≡ type)
+
+is-short : (type : ℕ) (n : Coded) (c : Command) (t k : ℕ) → coded c ≡ record { code = k; one = n .one; two = 0 }
+    → commandType c ≡ t → (eqb type t && eqb (n .code) k && eqb (n .two) 0) ≡ true → Is type n c
+is-short type n c t k e f h =
+    let p = and-both (eqb type t && eqb (n .code) k) (eqb (n .two) 0) h in
+    let q = and-both (eqb type t) (eqb (n .code) k) (p .0) in
+    let code : k ≡ n .code = sym (eqb-true (n .code) k (q .1)) in
+    let two : 0 ≡ n .two = sym (eqb-true (n .two) 0 (p .1)) in
+    (e ∙ (λ i. record { code = code i; one = n .one; two = two i }), f ∙ sym (eqb-true type t (q .0)))
+
+is-long : (type : ℕ) (n : Coded) (c : Command) (t k : ℕ) → coded c ≡ record { code = k; one = n .one; two = n .two }
+    → commandType c ≡ t → (eqb type t && eqb (n .code) k) ≡ true → Is type n c
+is-long type n c t k e f h =
+    let q = and-both (eqb type t) (eqb (n .code) k) h in
+    let code : k ≡ n .code = sym (eqb-true (n .code) k (q .1)) in
+    (e ∙ (λ i. record { code = code i; one = n .one; two = n .two }), f ∙ sym (eqb-true type t (q .0)))
+
+same-is : (type : ℕ) (n : Coded) (c d : Command) → some d ≡ some c → Is type n d → Is type n c
+same-is type n c d e h = let same : d ≡ c = cc in rw same at h
+
+pub command-written : (type : ℕ) (n : Coded) (c : Command) → commandFrom type n ≡ some c → (coded c ≡ n) × (commandType c ≡ type)
+unfolding commandFrom commandType coded
+command-written type n c e =
+    byTest (eqb type 1 && eqb (n .code) 1 && eqb (n .two) 0)
+    (λ t. same-is type n c (App (n .one)) (rw t at e) (is-short type n (App (n .one)) 1 1 refl refl t))
+    (λ f₁. byTest (eqb type 1 && eqb (n .code) 2 && eqb (n .two) 0)
+    (λ t. same-is type n c (DelRule (n .one)) (rw (f₁, t) at e) (is-short type n (DelRule (n .one)) 1 2 refl refl t))
+    (λ f₂. byTest (eqb type 2 && eqb (n .code) 3)
+    (λ t. same-is type n c (Ins (n .one) (n .two)) (rw (f₁, f₂, t) at e) (is-long type n (Ins (n .one) (n .two)) 2 3 refl refl t))
+    (λ f₃. byTest (eqb type 2 && eqb (n .code) 4 && eqb (n .two) 0)
+    (λ t. same-is type n c (DelPlace (n .one)) (rw (f₁, f₂, f₃, t) at e) (is-short type n (DelPlace (n .one)) 2 4 refl refl t))
+    (λ f₄. byTest (eqb type 2 && eqb (n .code) 5)
+    (λ t. same-is type n c (Mov (n .one) (n .two)) (rw (f₁, f₂, f₃, f₄, t) at e)
+    (is-long type n (Mov (n .one) (n .two)) 2 5 refl refl t))
+    (λ f₅. let clash : none ≡ some c = rw (f₁, f₂, f₃, f₄, f₅) at e in none-some clash)))))
+
+-- five bytes a command
+code-small : (c : Command) → (coded c) .code < 256
+unfolding coded
+code-small (App r) = omega arith
+code-small (DelRule r) = omega arith
+code-small (Ins i r) = omega arith
+code-small (DelPlace i) = omega arith
+code-small (Mov i j) = omega arith
+
+coded-read : (n : Coded) → n .code < 256 → n .one < 65536 → n .two < 65536 → codedOf (codedBytes n) ≡ n
+unfolding codedOf codedBytes part bytesOf
+coded-read n hc h1 h2 =
+    let code : number (part 0 1 (codedBytes n)) ≡ n .code = number-bytes 1 (n .code) hc in
+    let one : number (part 1 2 (codedBytes n)) ≡ n .one = number-bytes 2 (n .one) h1 in
+    let two : number (part 3 2 (codedBytes n)) ≡ n .two = number-bytes 2 (n .two) h2 in
+    λ i. record { code = code i; one = one i; two = two i }
+
+length-coded : (n : Coded) → length (codedBytes n) ≡ 5
+unfolding codedBytes bytesOf
+length-coded n = refl
+
+coded-are-bytes : (n : Coded) → AreBytes (codedBytes n)
+unfolding codedBytes
+coded-are-bytes n =
+    are-bytes-append _ _ (bytes-are-bytes 1 (n .code))
+    (are-bytes-append _ _ (bytes-are-bytes 2 (n .one)) (bytes-are-bytes 2 (n .two)))
+
+coded-written : (bytes : List ℕ) → AreBytes bytes → length bytes ≡ 5 → codedBytes (codedOf bytes) ≡ bytes
+unfolding codedOf codedBytes
+coded-written bytes h long =
+    let last : part 3 2 bytes ≡ drop 3 bytes =
+    sym (append-nil (part 3 2 bytes))
+    ∙ ap (λ (l : List ℕ). part 3 2 bytes ++ l) (sym (drop-of-length-le bytes {i = 5} (omega arith)))
+    ∙ part-rest 3 2 bytes in
+    rw (
+      part-written 0 1 bytes h (omega arith),
+      part-written 1 2 bytes h (omega arith),
+      part-written 3 2 bytes h (omega arith),
+      last,
+      part-rest 1 2 bytes,
+      part-rest 0 1 bytes,
+    )
+
+-- All commands of a script. A command's numbers have two bytes.
+abbrev commandBytes : Command → List ℕ
+commandBytes c = codedBytes (coded c)
+
+record Holdable (type : ℕ) (c : Command) : Type 0 where
+  typed : commandType c ≡ type
+  one : (coded c) .one < 65536
+  two : (coded c) .two < 65536
+
+every-read : (type : ℕ) (commands : List Command) → ((c : Command) → List·Memᴰ c commands → Holdable type c)
+    → everyCommand type (map commandBytes commands) ≡ some commands
+unfolding everyCommand
+every-read type [] h = refl
+every-read type (c ∷ commands) h =
+    let holds = h c (List·Memᴰ·head refl) in
+    let first : commandFrom type (codedOf (codedBytes (coded c))) ≡ some c =
+    rw (coded-read (coded c) (code-small c) (holds .one) (holds .two), ← holds .typed) (command-read c) in
+    let others = every-read type commands (λ d t. h d (List·Memᴰ·tail t)) in
+    rw (first, everyCommand) (rw others)
+
+piece-written : (type : ℕ) (piece : List ℕ) (c : Command) → AreBytes piece → length piece ≡ 5
+    → commandFrom type (codedOf piece) ≡ some c → (codedBytes (coded c) ≡ piece) × Holdable type c
+unfolding codedOf
+piece-written type piece c h long e =
+    let is = command-written type (codedOf piece) c e in
+    let one : (codedOf piece) .one < 65536 = part-fits 1 2 piece h (omega arith) in
+    let two : (codedOf piece) .two < 65536 = part-fits 3 2 piece h (omega arith) in (
+      ap codedBytes (is .0) ∙ coded-written piece h long,
+      record { typed = is .1; one = rw (is .0) one; two = rw (is .0) two },
+    )
+
+every-written : (type : ℕ) (pieces : List (List ℕ)) (commands : List Command) → everyCommand type pieces ≡ some commands
+    → ((piece : List ℕ) → List·Memᴰ piece pieces → AreBytes piece × (length piece ≡ 5))
+    → (map commandBytes commands ≡ pieces) × ((c : Command) → List·Memᴰ c commands → Holdable type c)
+unfolding everyCommand
+every-written type [] commands e h =
+    let empty : commands ≡ [] = cc in
+    rw empty (refl, λ c t. absurd (List·Memᴰ·not-nil t))
+every-written type (piece ∷ pieces) commands e h =
+    byOption (commandFrom type (codedOf piece))
+    (λ absent. none-some (rw (absent, everyCommand) at e))
+    (λ c is. byOption (everyCommand type pieces)
+    (λ absent. none-some (rw absent at (rw (is, everyCommand) at e)))
+    (λ others rest.
+    let whole : some (c ∷ others) ≡ some commands = rw rest at (rw (is, everyCommand) at e) in
+    let same : commands ≡ c ∷ others = cc in
+    let bytes = h piece (List·Memᴰ·head refl) in
+    let first = piece-written type piece c (bytes .0) (bytes .1) is in
+    let below = every-written type pieces others rest (λ other t. h other (List·Memᴰ·tail t)) in
+    rw same (
+      (λ i. first .0 i ∷ below .0 i),
+      λ d t. ⊎-elim (λ e. rw e (first .1)) (λ k. below .1 d k) (List·Memᴰ·cases-cons t),
+    )))
+
+-- one piece that is no command
+every-none : (type : ℕ) (pieces : List (List ℕ)) → everyCommand type pieces ≡ none
+    → (piece : List ℕ) × List·Memᴰ piece pieces × (commandFrom type (codedOf piece) ≡ none)
+unfolding everyCommand
+every-none type [] e = none-some (sym e)
+every-none type (piece ∷ pieces) e =
+    byOption (commandFrom type (codedOf piece))
+    (λ absent. (piece, List·Memᴰ·head refl, absent))
+    (λ c is. byOption (everyCommand type pieces)
+    (λ absent. let below = every-none type pieces absent in (below .0, List·Memᴰ·tail (below .1), below .2))
+    (λ others rest. none-some (sym (rw rest at (rw (is, everyCommand) at e)))))
+
+none-every : (type : ℕ) (pieces : List (List ℕ)) (piece : List ℕ) → List·Memᴰ piece pieces
+    → commandFrom type (codedOf piece) ≡ none → everyCommand type pieces ≡ none
+unfolding everyCommand
+none-every type [] piece t e = absurd (List·Memᴰ·not-nil t)
+none-every type (first ∷ pieces) piece t e =
+    ⊎-elim
+    (λ same. let absent : commandFrom type (codedOf first) ≡ none = rw same at e in rw (absent, everyCommand) refl)
+    (λ k. byOption (commandFrom type (codedOf first))
+    (λ absent. rw (absent, everyCommand) refl)
+    (λ c is. rw (is, everyCommand) (rw (none-every type pieces piece k e))))
+    (List·Memᴰ·cases-cons t)
+
+-- Scripts: a type byte, then the commands.
+five-bytes : (commands : List Command) (piece : List ℕ) → List·Memᴰ piece (map commandBytes commands) → length piece ≡ 5
+five-bytes commands piece t =
+    let at = Memᴰ·of-map commandBytes commands t in
+    rw (← at .2) (length-coded (coded (at .0)))
+
+pub length-script : (s : Script) → length (scriptBytes s) ≡ 1 + 5 * length (s .commands)
+unfolding scriptBytes bytesOf
+length-script s =
+    omega (
+      arith,
+      length-joined 5 (map commandBytes (s .commands)) (five-bytes (s .commands)),
+      length-map (s .commands) commandBytes,
+    )
+
+pub script-are-bytes : (s : Script) → AreBytes (scriptBytes s)
+unfolding scriptBytes
+script-are-bytes s =
+    are-bytes-append _ _ (bytes-are-bytes 1 (s .type))
+    (are-bytes-joined (map commandBytes (s .commands))
+    (λ piece t.
+    let at = Memᴰ·of-map commandBytes (s .commands) t in
+    rw (← at .2) (coded-are-bytes (coded (at .0)))))
+
+commands-at : (value : List ℕ) (count : ℕ) → length value ≡ 1 + 5 * count → commandChunks value ≡ chunks 5 count (drop 1 value)
+unfolding commandChunks
+commands-at value count long =
+    let counted : (length value - 1) / 5 ≡ count = omega arith in
+    rw counted
+
+type-at : (s : Script) → s .type < 256 → number (part 0 1 (scriptBytes s)) ≡ s .type
+unfolding scriptBytes bytesOf part
+type-at s h = number-bytes 1 (s .type) h
+
+chunks-at : (s : Script) → commandChunks (scriptBytes s) ≡ map commandBytes (s .commands)
+unfolding scriptBytes bytesOf
+chunks-at s =
+    commands-at (scriptBytes s) (length (s .commands)) (length-script s)
+    ∙ (rw length-map at (chunks-joined 5 (map commandBytes (s .commands)) (five-bytes (s .commands))))
+
+type-known : (type : ℕ) → (type ≡ 1) ⊎ (type ≡ 2) → (eqb type 1 || eqb type 2) ≡ true
+type-known type h =
+    ⊎-elim (λ e. or-left (eqb type 2) (eq-eqb type 1 e)) (λ e. or-right (eqb type 1) (eq-eqb type 2 e)) h
+
+pub script-read : (s : Script) → Scripted s → scriptOf (scriptBytes s) ≡ some s
+unfolding scriptOf
+script-read s h =
+    let type : number (part 0 1 (scriptBytes s)) ≡ s .type = type-at s (⊎-elim (λ e. omega arith) (λ e. omega arith) (h .type)) in
+    let commands : everyCommand (s .type) (commandChunks (scriptBytes s)) ≡ some (s .commands) =
+    rw (chunks-at s)
+    (every-read (s .type) (s .commands) (λ c t. record { typed = h .typed c t; one = h .one c t; two = h .two c t })) in
+    rw (type, type-known (s .type) (h .type), commands, type)
+
+-- what a script is read from
+script-of : (value : List ℕ) (s : Script) → scriptOf value ≡ some s
+    → ((s .type ≡ 1) ⊎ (s .type ≡ 2)) × (s .type ≡ number (part 0 1 value))
+    × (everyCommand (s .type) (commandChunks value) ≡ some (s .commands))
+unfolding scriptOf
+script-of value s e =
+    let type = number (part 0 1 value) in
+    byTest (eqb type 1 || eqb type 2)
+    (λ t. byOption (everyCommand type (commandChunks value))
+    (λ absent. none-some (rw (t, absent) at e))
+    (λ commands is.
+    let whole : some (record { type = type; commands = commands }) ≡ some s = rw (t, is) at e in
+    let same : record { type = type; commands = commands } ≡ s = cc in
+    rw (← same) (
+      ⊎-elim (λ a. inl (eqb-true type 1 a)) (λ a. inr (eqb-true type 2 a)) (or-either (eqb type 1) (eqb type 2) t),
+      refl,
+      is,
+    )))
+    (λ f. none-some (rw f at e))
+
+-- bytes of the right length that are read as a script are those of the script, and a file can hold it
+module _ (value : List ℕ) (h : AreBytes value) (right : RightScript (length value)) (s : Script)
+    (e : scriptOf value ≡ some s) where
+  commands-long : length (drop 1 value) ≡ 5 * right .0
+  commands-long = omega (arith, length-drop 1 value, right .1)
+
+  pieces-written : (map commandBytes (s .commands) ≡ chunks 5 (right .0) (drop 1 value))
+      × ((c : Command) → List·Memᴰ c (s .commands) → Holdable (s .type) c)
+  pieces-written =
+      every-written (s .type) (chunks 5 (right .0) (drop 1 value)) (s .commands)
+      (rw (commands-at value (right .0) (right .1)) at (script-of value s e .2))
+      (λ piece t. (
+        are-bytes-chunk 5 (right .0) (drop 1 value) (are-bytes-drop 1 value h) piece t,
+        chunk-length 5 (right .0) (drop 1 value) commands-long piece t,
+      ))
+
+  pub script-written : scriptBytes s ≡ value
+  unfolding scriptBytes
+  script-written =
+      rw (
+        pieces-written .0,
+        joined-chunks 5 (right .0) (drop 1 value) commands-long,
+        script-of value s e .1,
+        part-written 0 1 value h (omega (arith, right .1)),
+        part-rest 0 1 value,
+      )
+
+  pub script-scripted : Scripted s
+  script-scripted =
+      let counted : length (s .commands) ≡ right .0 =
+      sym (length-map (s .commands) commandBytes) ∙ ap length (pieces-written .0)
+      ∙ length-chunks 5 (right .0) (drop 1 value) in
+      record {
+        type = script-of value s e .0;
+        few = rw counted (right .2);
+        typed = λ c t. pieces-written .1 c t .typed;
+        one = λ c t. pieces-written .1 c t .one;
+        two = λ c t. pieces-written .1 c t .two;
+      }
+
+-- 11: what is no script
+none-no-command : (type : ℕ) (piece : List ℕ) → commandFrom type (codedOf piece) ≡ none → NoCommand type piece
+none-no-command type piece absent c typed is =
+    none-some (sym absent ∙ (rw (typed, is) at (command-read c)))
+
+no-command-none : (type : ℕ) (piece : List ℕ) → NoCommand type piece → commandFrom type (codedOf piece) ≡ none
+no-command-none type piece h =
+    byOption (commandFrom type (codedOf piece)) (λ absent. absent)
+    (λ c is. let at = command-written type (codedOf piece) c is in absurd (h c (at .1) (at .0)))
+
+pub none-wrong : (value : List ℕ) → scriptOf value ≡ none → WrongCoding value
+unfolding scriptOf
+none-wrong value e =
+    let type = number (part 0 1 value) in
+    byTest (eqb type 1 || eqb type 2)
+    (λ t. byOption (everyCommand type (commandChunks value))
+    (λ absent. let at = every-none type (commandChunks value) absent in inr (at .0, at .1, none-no-command type (at .0) (at .2)))
+    (λ commands is. none-some (sym (rw (t, is) at e))))
+    (λ f.
+    let neither = or-neither (eqb type 1) (eqb type 2) f in
+    inl (eqb-false type 1 (neither .0), eqb-false type 2 (neither .1)))
+
+pub wrong-none : (value : List ℕ) → WrongCoding value → scriptOf value ≡ none
+wrong-none value w =
+    byOption (scriptOf value) (λ absent. absent)
+    (λ s is.
+    let at = script-of value s is in
+    ⊎-elim
+    (λ neither. absurd (⊎-elim (λ e. neither .0 (sym (at .1) ∙ e)) (λ e. neither .1 (sym (at .1) ∙ e)) (at .0)))
+    (λ bad. none-some (sym (none-every (number (part 0 1 value)) (commandChunks value) (bad .0) (bad .1)
+    (no-command-none (number (part 0 1 value)) (bad .0) (bad .2))) ∙ (rw (at .1) at (at .2))))
+    w)
