@@ -4,86 +4,30 @@
 use Prim.Native.Nat.{ℕ, _≤_, zero-le, suc-le-suc}
 use native.Mathlib.Omega.{arith}
 use mathlib.Core.Path.{_≡_, refl, sym, _∙_, ap, subst}
-use mathlib.Core.Bool.{Bool, true, false, not}
+use mathlib.Core.Bool.{Bool, true}
 use mathlib.Core.Logic.{inl, inr, ⊎-elim}
-use mathlib.Core.List.{
-  List,
-  [],
-  _∷_,
-  _++_,
-  map,
-  reverse,
-  reverseAux-eq,
-  map-append,
-  append-nil,
-  append-assoc,
-  List·Memᴰ·head,
-  List·Memᴰ·tail,
-  Memᴰ·cast,
-  Memᴰ·append-left,
-  List·Memᴰ·append-cases,
-  List·Memᴰ·cases-cons,
-  Sublistᴰ,
-  Sublistᴰ·slnil,
-  Sublistᴰ·cons,
-  Sublistᴰ·cons-cons,
-  Sublistᴰ·nil-sublist,
-  Sublistᴰ·refl,
-  Sublistᴰ·trans,
-  Sublistᴰ·append,
-  Sublistᴰ·cases-cons-cons,
-}
+use mathlib.Core.List.{List, [], _∷_, _++_, map, reverse, reverseAux-eq, map-append, append-nil}
+use mathlib.Core.List.{Memᴰ·append-left, List·Memᴰ·append-cases}
+use mathlib.Core.List.{Sublistᴰ, Sublistᴰ·slnil, Sublistᴰ·cons, Sublistᴰ·cons-cons, Sublistᴰ·nil-sublist, Sublistᴰ·refl}
+use mathlib.Core.List.{Sublistᴰ·append}
 use borrow.Author.Tests.{eqb-true, eqb-false, eq-eqb}
 use lib.Dec.{eqb}
 use lib.ListN.{length, drop, length-append, length-map, length-reverse}
-use lib.Seq.{drop-length}
-use Rattle.policy.specs.Lists.{all, pick, mem, common, missing}
+use lib.Seq.{append-snoc}
+use Rattle.policy.specs.Lists.{pick, mem, common, missing}
 use Rattle.policy.specs.Command.{commandType, ofType}
 use Rattle.policy.specs.AppendDelete.{keptRun, planOne}
-use Rattle.policy.specs.Properties.{In, Distinct, Precedes, SupportedBy, Ordered}
+use Rattle.policy.specs.Properties.{In, Distinct, SupportedBy}
 use Rattle.policy.specs.Claims.{Policy, KeptRunIsLongest, PlanOneReaches, PlanOneCount}
 use Rattle.policy.specs.declared.Command.{Command}
 use Rattle.policy.specs.declared.Command.the-variants.{App, DelRule}
-use Rattle.policy.proofs.Tests.{byTest, and-both, both-and, falsely}
-use Rattle.policy.proofs.Lists.{mem-in, in-mem}
-use Rattle.policy.proofs.Order.{
-  distinct-left,
-  distinct-apart,
-  in-middle,
-  precedes-cases,
-  precedes-in-right,
-  sublist-in,
-  sublist-distinct,
-  sublist-precedes,
-  pick-in,
-  pick-sublist,
-  pick-append,
-  pick-count,
-}
-use Rattle.policy.proofs.Way.{Steps, steps-leads, steps-append}
-
--- What is picked, once more: the rules of a list that occurs in another one are picked from it, and nothing where no rule passes.
-pub pick-occurring : {k l : List ℕ} (test : ℕ → Bool) → Sublistᴰ k l → Distinct l
-    → ((r : ℕ) → In r k → test r ≡ true) → ((r : ℕ) → In r l → test r ≡ true → In r k) → pick test l ≡ k
-unfolding pick
-pick-occurring test Sublistᴰ·slnil d pass only = refl
-pick-occurring test (Sublistᴰ·cons {a = x} s) d pass only =
-    rw (falsely (λ t. d .0 (sublist-in s x (only x (List·Memᴰ·head refl) t))))
-    (pick-occurring test s (d .1) pass (λ r h. only r (List·Memᴰ·tail h)))
-pick-occurring test (Sublistᴰ·cons-cons {a = x} {b = y} {l₁ = k} e s) d pass only =
-    let rest = pick-occurring test s (d .1) (λ r h. pass r (List·Memᴰ·tail h))
-    (λ r h t. ⊎-elim (λ f. absurd (d .0 (Memᴰ·cast (sym (f ∙ e)) h))) (λ i. i)
-    (List·Memᴰ·cases-cons (only r (List·Memᴰ·tail h) t))) in
-    rw (pass y (List·Memᴰ·head (sym e))) (cc)
-
-pub common-occurring : {k l : List ℕ} → Sublistᴰ k l → Distinct l → common l k ≡ k
-unfolding common
-common-occurring {k} s d = pick-occurring (λ r. mem r k) s d (λ r h. in-mem r k h) (λ r h t. mem-in r k t)
-
-pub pick-none : (test : ℕ → Bool) (l : List ℕ) → ((r : ℕ) → In r l → test r ≡ false) → pick test l ≡ []
-unfolding pick
-pick-none test [] fail = refl
-pick-none test (x ∷ l) fail = rw (fail x (List·Memᴰ·head refl)) (pick-none test l (λ r h. fail r (List·Memᴰ·tail h)))
+use Rattle.policy.proofs.Tests.{byTest}
+use Rattle.policy.proofs.Lists.{mem-in, all-append, all-map, in-middle}
+use Rattle.policy.proofs.Order.{distinct-left, not-earlier, sublist-distinct, sublist-precedes, sublist-tails}
+use Rattle.policy.proofs.Order.{sublist-past}
+use Rattle.policy.proofs.Counting.{pick-in, pick-sublist, pick-append, common-occurring, pick-count}
+use Rattle.policy.proofs.Standing.{precedes-front}
+use Rattle.policy.proofs.Way.{Orderly, Steps, steps-leads, steps-append}
 
 -- What is kept: a front part of the target, which occurs in order in the initial policy, and the longest such part.
 pub kept-run-front : (initial target : List ℕ) → target ≡ keptRun initial target ++ drop (length (keptRun initial target)) target
@@ -115,10 +59,9 @@ kept-run-longest (x ∷ initial) (r ∷ target) (y ∷ run) rest e s =
     let heads : r ≡ y = cc in
     let tails : target ≡ run ++ rest = cc in
     byTest (eqb x r)
-    (λ t. rw (t, keptRun) (suc-le-suc (kept-run-longest initial target run rest tails
-    (⊎-elim (λ h. Sublistᴰ·trans (Sublistᴰ·cons (Sublistᴰ·refl run)) h) (λ h. h .1) (Sublistᴰ·cases-cons-cons s)))))
+    (λ t. rw (t, keptRun) (suc-le-suc (kept-run-longest initial target run rest tails (sublist-tails s))))
     (λ f. rw (f, keptRun) (kept-run-longest initial (r ∷ target) (y ∷ run) rest e
-    (⊎-elim (λ h. h) (λ h. absurd (eqb-false x r f (sym (h .0) ∙ sym heads))) (Sublistᴰ·cases-cons-cons s))))
+    (sublist-past (λ h. eqb-false x r f (sym h ∙ sym heads)) s)))
 
 pub kept-run-is-longest : KeptRunIsLongest
 kept-run-is-longest initial target = (
@@ -132,13 +75,6 @@ pub kept-run-self : (l : List ℕ) → keptRun l l ≡ l
 unfolding keptRun
 kept-run-self [] = refl
 kept-run-self (x ∷ l) = rw (eq-eqb x x refl, keptRun) (ap (λ (m : List ℕ). x ∷ m) (kept-run-self l))
-
--- "I = T: no command"
-pub plan-one-nothing : (initial : List ℕ) → planOne initial initial ≡ []
-unfolding planOne missing
-plan-one-nothing initial =
-    let none = pick-none (λ r. not (mem r initial)) initial (λ r h. rw (in-mem r initial h)) in
-    rw (kept-run-self initial, none, drop-length initial)
 
 -- "The count is initial + target − 2 × kept"
 pub plan-one-count : PlanOneCount
@@ -158,21 +94,7 @@ plan-one-count initial target d =
       ap length (kept-run-front initial target) ∙ length-append kept new,
     )
 
--- The script is of type 1: a test of every command, of a script in two parts and of a script made from rules.
-pub all-append : {A : Type 0} (test : A → Bool) (u v : List A)
-    → all test u ≡ true → all test v ≡ true → all test (u ++ v) ≡ true
-unfolding all
-all-append test [] v e f = f
-all-append test (x ∷ u) v e f =
-    let both = and-both (test x) (all test u) e in
-    both-and (both .0) (all-append test u v (both .1) f)
-
-pub all-map : {A B : Type 0} (test : B → Bool) (f : A → B) (l : List A)
-    → ((x : A) → test (f x) ≡ true) → all test (map f l) ≡ true
-unfolding all
-all-map test f [] h = refl
-all-map test f (x ∷ l) h = both-and (h x) (all-map test f l h)
-
+-- The script is of type 1.
 plan-one-type : (initial target : List ℕ) → ofType 1 (planOne initial target) ≡ true
 unfolding ofType planOne commandType
 plan-one-type initial target =
@@ -182,22 +104,12 @@ plan-one-type initial target =
     all-append test (map DelRule out) (map App new) (all-map test DelRule out (λ r. refl)) (all-map test App new (λ r. refl))
 
 -- a rule of a front part of a policy, where that part occurs in order in the running list
-pub front-supported : (policy running u v : List ℕ) → policy ≡ u ++ v → Distinct policy → Sublistᴰ u running
+front-supported : (policy running u v : List ℕ) → policy ≡ u ++ v → Distinct policy → Sublistᴰ u running
     → (r : ℕ) → In r u → SupportedBy policy running r
-front-supported policy running u v e d s r h =
-    let apart : ¬ In r v = distinct-apart u v (subst Distinct e d) r h in
-    record {
-      named = rw e (Memᴰ·append-left v h);
-      led = λ x p.
-          ⊎-elim (λ i. sublist-precedes x r s i)
-          (⊎-elim (λ i. absurd (apart (i .1))) (λ i. absurd (apart (precedes-in-right x r v i))))
-          (precedes-cases x r u v (subst (Precedes x r) e p));
-    }
-
--- a list that the judge does not turn away with verdict 30
-pub record Orderly (initial target l : List ℕ) : Type 0 where
-  pub distinct : Distinct l
-  pub ordered : Ordered initial target l
+front-supported policy running u v e d s r h = record {
+  named = rw e (Memᴰ·append-left v h);
+  led = λ x p. sublist-precedes x r s (precedes-front x r u v (rw e at d) h (rw e at p));
+}
 
 -- The lists on the way, whichever rules are kept: they are a front part of the target and occur in order in the initial policy.
 module _ (size : ℕ) (initial target kept rest : List ℕ) (first : Policy size initial) (last : Policy size target)
@@ -221,7 +133,7 @@ module _ (size : ℕ) (initial target kept rest : List ℕ) (first : Policy size
       (Sublistᴰ·append (Sublistᴰ·refl u) (Sublistᴰ·nil-sublist (common v kept))) in
       let running-in : Sublistᴰ running (u ++ v) = Sublistᴰ·append (Sublistᴰ·refl u) (pick-sublist (λ r. mem r kept) v) in
       record {
-        distinct = sublist-distinct running-in (subst Distinct e (first .distinct));
+        distinct = sublist-distinct running-in (rw e at (first .distinct));
         ordered = λ r h.
             ⊎-elim
             (λ t. inl (front-supported initial running u v e (first .distinct) front-in r t))
@@ -232,15 +144,15 @@ module _ (size : ℕ) (initial target kept rest : List ℕ) (first : Policy size
 
   deleting : (u v : List ℕ) → initial ≡ u ++ v → Way initial (map DelRule (reverse (missing v kept))) (u ++ common v kept)
   unfolding common missing pick
-  deleting u [] e = (subst (Orderly initial target) (sym e) (deleting-orderly u [] e), e)
+  deleting u [] e = (rw (← e) at (deleting-orderly u [] e), e)
   deleting u (x ∷ v) e =
       let left : List ℕ = common v kept in
       let script : List Command = map DelRule (reverse (missing v kept)) in
-      let on : initial ≡ (u ++ (x ∷ [])) ++ v = e ∙ sym (append-assoc u (x ∷ []) v) in
+      let on : initial ≡ (u ++ (x ∷ [])) ++ v = e ∙ sym (append-snoc u x v) in
       let others : Way initial script ((u ++ (x ∷ [])) ++ left) = deleting (u ++ (x ∷ [])) v on in
-      let at : (u ++ (x ∷ [])) ++ left ≡ u ++ (x ∷ left) = append-assoc u (x ∷ []) left in
+      let at : (u ++ (x ∷ [])) ++ left ≡ u ++ (x ∷ left) = append-snoc u x left in
       let there : In x initial = rw e (in-middle x u v) in
-      let once : ¬ In x u = λ h. distinct-apart u (x ∷ v) (subst Distinct e (first .distinct)) x h (List·Memᴰ·head refl) in
+      let once : ¬ In x u = not-earlier x u v (rw e at (first .distinct)) in
       byTest (mem x kept)
       (λ t. rw t (subst (λ (l : List ℕ). Way initial script l) at others))
       (λ f. let after : Orderly initial target (u ++ left) = rw f at (deleting-orderly u (x ∷ v) e) in
@@ -254,7 +166,7 @@ module _ (size : ℕ) (initial target kept rest : List ℕ) (first : Policy size
   appending-orderly : (u v : List ℕ) → target ≡ u ++ v → Orderly initial target u
   appending-orderly u v e =
       record {
-        distinct = distinct-left u v (subst Distinct e (last .distinct));
+        distinct = distinct-left u v (rw e at (last .distinct));
         ordered = λ r h. inr (front-supported target u u v e (last .distinct) (Sublistᴰ·refl u) r h);
       }
 
@@ -262,12 +174,11 @@ module _ (size : ℕ) (initial target kept rest : List ℕ) (first : Policy size
   appending u [] e = (appending-orderly u [] e, sym (e ∙ append-nil u))
   appending u (r ∷ v) e =
       let there : In r target = rw e (in-middle r u v) in
-      let new : ¬ In r u = λ h. distinct-apart u (r ∷ v) (subst Distinct e (last .distinct)) r h (List·Memᴰ·head refl) in
-      let on : target ≡ (u ++ (r ∷ [])) ++ v = e ∙ sym (append-assoc u (r ∷ []) v) in
+      let new : ¬ In r u = not-earlier r u v (rw e at (last .distinct)) in
+      let on : target ≡ (u ++ (r ∷ [])) ++ v = e ∙ sym (append-snoc u r v) in
       (appending-orderly u (r ∷ v) e, (u ++ (r ∷ []), (last .inside r there, new, refl), tt, appending (u ++ (r ∷ [])) v on))
 
-  keeping-steps : Steps (Orderly initial target) (λ l m. Unit {0}) size initial
-      (map DelRule (reverse (missing initial kept)) ++ map App rest) target
+  keeping-steps : Way initial (map DelRule (reverse (missing initial kept)) ++ map App rest) target
   keeping-steps =
       steps-append (Orderly initial target) (λ l m. Unit {0}) size initial kept target
       (map DelRule (reverse (missing initial kept))) (map App rest)

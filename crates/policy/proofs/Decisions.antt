@@ -9,7 +9,7 @@ use mathlib.Core.List.{List, [], _∷_, List·Memᴰ·head, List·Memᴰ·tail, 
 use Rattle.policy.specs.Policy.{Matching, decideFrom, decide, decided}
 use Rattle.policy.specs.Properties.{In, Distinct, Within, Precedes, SupportedBy, Ordered, Full}
 use Rattle.policy.specs.Claims.{OrderedAndFullDecidesAsOne, OrderedKeepsTheDefault}
-use Rattle.policy.proofs.Tests.{byTest, never}
+use Rattle.policy.proofs.Tests.{byTest, never, not-first, not-second}
 use Rattle.policy.proofs.Order.{precedes-in-right, precedes-total}
 
 -- rule r is in the list and hits, and no rule before it does
@@ -18,33 +18,32 @@ pub record FirstHit (m : Matching) (l : List ℕ) (r : ℕ) : Type 0 where
   pub hits : m .hit r ≡ true
   pub first : (x : ℕ) → Precedes x r l → m .hit x ≡ false
 
-abbrev pub NoHit : Matching → List ℕ → Type 0
+abbrev NoHit : Matching → List ℕ → Type 0
 NoHit m l = (x : ℕ) → In x l → m .hit x ≡ false
 
 -- the list decides the flow by the rule that decides it in the policy, or neither has such a rule
-abbrev pub Follows : Matching → List ℕ → List ℕ → Type 0
-Follows m policy l = ((r : ℕ) × FirstHit m policy r × FirstHit m l r) ⊎ (NoHit m policy × NoHit m l)
+abbrev pub Agrees : Matching → List ℕ → List ℕ → Type 0
+Agrees m policy l = ((r : ℕ) × FirstHit m policy r × FirstHit m l r) ⊎ (NoHit m policy × NoHit m l)
 
 module _ (m : Matching) where
-  -- the place from which a list is counted has no part in the action
+  -- Lists by their head. The place from which a list is counted has no part in the action.
   place-free : (p q : ℕ) (l : List ℕ) → (decideFrom m p l) .action ≡ (decideFrom m q l) .action
   unfolding decideFrom
   place-free p q [] = refl
   place-free p q (x ∷ l) = byTest (m .hit x) (λ t. rw t) (λ f. rw f (place-free (suc p) (suc q) l))
 
-  -- Lists by their head.
-  pub head-decides : (x : ℕ) (l : List ℕ) → m .hit x ≡ true → decided m (x ∷ l) ≡ m .action x
+  head-decides : (x : ℕ) (l : List ℕ) → m .hit x ≡ true → decided m (x ∷ l) ≡ m .action x
   unfolding decided decide decideFrom
   head-decides x l t = rw (t, decided)
 
-  pub head-passes : (x : ℕ) (l : List ℕ) → m .hit x ≡ false → decided m (x ∷ l) ≡ decided m l
+  head-passes : (x : ℕ) (l : List ℕ) → m .hit x ≡ false → decided m (x ∷ l) ≡ decided m l
   unfolding decided decide decideFrom
   head-passes x l f = rw (f, decided) (place-free 2 1 l)
 
-  pub first-hit-tail : (x r : ℕ) (l : List ℕ) → m .hit x ≡ false → FirstHit m (x ∷ l) r → FirstHit m l r
+  first-hit-tail : (x r : ℕ) (l : List ℕ) → m .hit x ≡ false → FirstHit m (x ∷ l) r → FirstHit m l r
   first-hit-tail x r l f h =
       record {
-        there = ⊎-elim (λ e. never (h .hits) (ap (m .hit) e ∙ f)) (λ t. t) (List·Memᴰ·cases-cons (h .there));
+        there = not-first (λ e. never (h .hits) (ap (m .hit) e ∙ f)) (List·Memᴰ·cases-cons (h .there));
         hits = h .hits;
         first = λ y p. h .first y (inr p);
       }
@@ -63,7 +62,7 @@ module _ (m : Matching) where
   no-hit-decides [] h = refl
   no-hit-decides (x ∷ l) h = head-passes x l (h x (List·Memᴰ·head refl)) ∙ no-hit-decides l (λ y k. h y (List·Memᴰ·tail k))
 
-  pub first-hit-or-none : (l : List ℕ) → Distinct l → ((r : ℕ) × FirstHit m l r) ⊎ NoHit m l
+  first-hit-or-none : (l : List ℕ) → Distinct l → ((r : ℕ) × FirstHit m l r) ⊎ NoHit m l
   first-hit-or-none [] d = inr (λ x h. absurd (List·Memᴰ·not-nil h))
   first-hit-or-none (x ∷ l) d =
       byTest (m .hit x)
@@ -90,43 +89,43 @@ module _ (m : Matching) where
   -- the first hit stands before every other rule that hits
   pub first-hit-precedes : (a b : ℕ) (l : List ℕ) → FirstHit m l a → m .hit b ≡ true → a ≢ b → In b l → Precedes a b l
   first-hit-precedes a b l h t n k =
-      ⊎-elim (λ p. p) (λ p. never t (h .first b p)) (precedes-total a b l (h .there) k n)
+      not-second (λ p. never t (h .first b p)) (precedes-total a b l (h .there) k n)
 
-  -- A list that follows a policy.
-  pub follows-decides : (policy l : List ℕ) → Follows m policy l → decided m l ≡ decided m policy
-  follows-decides policy l =
+  -- A list that agrees with a policy.
+  pub agrees-decides : (policy l : List ℕ) → Agrees m policy l → decided m l ≡ decided m policy
+  agrees-decides policy l =
       ⊎-elim (λ h. first-hit-decides l (h .0) (h .2) ∙ sym (first-hit-decides policy (h .0) (h .1)))
       (λ n. no-hit-decides l (n .1) ∙ sym (no-hit-decides policy (n .0)))
 
-  pub supported-follows : (policy l : List ℕ) (r : ℕ) → FirstHit m l r → SupportedBy policy l r → Follows m policy l
-  supported-follows policy l r h s =
+  supported-agrees : (policy l : List ℕ) (r : ℕ) → FirstHit m l r → SupportedBy policy l r → Agrees m policy l
+  supported-agrees policy l r h s =
       inl (r, record { there = s .named; hits = h .hits; first = λ x p. h .first x (s .led x p) }, h)
 
-  pub within-follows : (policy l : List ℕ) → NoHit m l → Within policy l → Follows m policy l
-  within-follows policy l n w = inr ((λ x h. n x (w x h)), n)
+  within-agrees : (policy l : List ℕ) → NoHit m l → Within policy l → Agrees m policy l
+  within-agrees policy l n w = inr ((λ x h. n x (w x h)), n)
 
-  pub ordered-follows : (initial target l : List ℕ)
-      → Distinct l → Ordered initial target l → (Follows m initial l ⊎ Follows m target l) ⊎ NoHit m l
-  ordered-follows initial target l d o =
+  ordered-agrees : (initial target l : List ℕ)
+      → Distinct l → Ordered initial target l → (Agrees m initial l ⊎ Agrees m target l) ⊎ NoHit m l
+  ordered-agrees initial target l d o =
       ⊎-map
-      (λ h. ⊎-map (supported-follows initial l (h .0) (h .1)) (supported-follows target l (h .0) (h .1)) (o (h .0) (h .1 .there)))
+      (λ h. ⊎-map (supported-agrees initial l (h .0) (h .1)) (supported-agrees target l (h .0) (h .1)) (o (h .0) (h .1 .there)))
       (λ n. n)
       (first-hit-or-none l d)
 
-  pub follows-one : (initial target l : List ℕ)
-      → Distinct l → Ordered initial target l → Full initial target l → Follows m initial l ⊎ Follows m target l
-  follows-one initial target l d o full =
+  pub agrees-with-one : (initial target l : List ℕ)
+      → Distinct l → Ordered initial target l → Full initial target l → Agrees m initial l ⊎ Agrees m target l
+  agrees-with-one initial target l d o full =
       ⊎-elim (λ f. f)
-      (λ n. ⊎-map (within-follows initial l n) (within-follows target l n) full)
-      (ordered-follows initial target l d o)
+      (λ n. ⊎-map (within-agrees initial l n) (within-agrees target l n) full)
+      (ordered-agrees initial target l d o)
 
 pub ordered-and-full-decides-as-one : OrderedAndFullDecidesAsOne
 ordered-and-full-decides-as-one m initial target l d o full =
-    ⊎-map (follows-decides m initial l) (follows-decides m target l) (follows-one m initial target l d o full)
+    ⊎-map (agrees-decides m initial l) (agrees-decides m target l) (agrees-with-one m initial target l d o full)
 
 pub ordered-keeps-the-default : OrderedKeepsTheDefault
 ordered-keeps-the-default m initial target l d o i t =
     ⊎-elim
-    (⊎-elim (λ f. follows-decides m initial l f ∙ i) (λ f. follows-decides m target l f ∙ t))
+    (⊎-elim (λ f. agrees-decides m initial l f ∙ i) (λ f. agrees-decides m target l f ∙ t))
     (no-hit-decides m l)
-    (ordered-follows m initial target l d o)
+    (ordered-agrees m initial target l d o)

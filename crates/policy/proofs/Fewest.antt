@@ -2,24 +2,9 @@
 -- `app` makes the longest kept run at most one rule longer, and `del` makes it no longer. Assumes nothing.
 use Prim.Native.Nat.{ℕ, _+_, _*_, _≤_}
 use native.Mathlib.Omega.{arith}
-use mathlib.Core.Path.{_≡_, refl, _∙_, ap, subst}
+use mathlib.Core.Path.{_≡_, refl, _∙_, ap}
 use mathlib.Core.Bool.{true}
-use mathlib.Core.Logic.{⊎-elim}
-use mathlib.Core.List.{
-  List,
-  [],
-  _∷_,
-  _++_,
-  append-assoc,
-  Sublistᴰ,
-  Sublistᴰ·slnil,
-  Sublistᴰ·cons,
-  Sublistᴰ·cons-cons,
-  Sublistᴰ·refl,
-  Sublistᴰ·trans,
-  Sublistᴰ·append,
-  Sublistᴰ·cases-cons,
-}
+use mathlib.Core.List.{List, [], _∷_, _++_, append-assoc, Sublistᴰ, Sublistᴰ·trans}
 use lib.ListN.{length, drop, length-append}
 use Rattle.policy.specs.Lists.{all}
 use Rattle.policy.specs.Command.{commandType, ofType}
@@ -29,24 +14,9 @@ use Rattle.policy.specs.Claims.{PlanOneFewest}
 use Rattle.policy.specs.declared.Command.{Command}
 use Rattle.policy.specs.declared.Command.the-variants.{App, DelRule, Ins, DelPlace, Mov}
 use Rattle.policy.proofs.Tests.{never}
+use Rattle.policy.proofs.Lists.{length-around}
+use Rattle.policy.proofs.Order.{sublist-length, sublist-around, sublist-parts}
 use Rattle.policy.proofs.AppendDelete.{kept-run-front, kept-run-occurs, kept-run-longest, kept-run-self, plan-one-count}
-
--- a list that occurs in another one is not longer
-pub sublist-length : {k l : List ℕ} → Sublistᴰ k l → length k ≤ length l
-sublist-length Sublistᴰ·slnil = omega arith
-sublist-length (Sublistᴰ·cons s) = omega (arith, sublist-length s)
-sublist-length (Sublistᴰ·cons-cons e s) = omega (arith, sublist-length s)
-
--- what occurs in two lists one after the other is a part that occurs in the first and then one that occurs in the second
-pub sublist-parts : (k u v : List ℕ) → Sublistᴰ k (u ++ v)
-    → (front : List ℕ) × (rest : List ℕ) × (k ≡ front ++ rest) × Sublistᴰ front u × Sublistᴰ rest v
-sublist-parts k [] v s = ([], k, refl, Sublistᴰ·slnil, s)
-sublist-parts k (x ∷ u) v s =
-    ⊎-elim
-    (λ h. let parts = sublist-parts k u v h in (parts .0, parts .1, parts .2, Sublistᴰ·cons (parts .3), parts .4))
-    (λ h. let parts = sublist-parts (h .0) u v (h .2) in
-    (x ∷ parts .0, parts .1, h .1 ∙ ap (λ (l : List ℕ). x ∷ l) (parts .2), Sublistᴰ·cons-cons refl (parts .3), parts .4))
-    (Sublistᴰ·cases-cons s)
 
 -- the kept run of a longer list: not shorter, and longer by no more than the rules put at its end
 kept-run-grows : (l m target : List ℕ) → Sublistᴰ l m → length (keptRun l target) ≤ length (keptRun m target)
@@ -73,18 +43,14 @@ fewest : (size : ℕ) (l target : List ℕ) (script : List Command) → ofType 1
     → length l + length target ≤ length script + 2 * length (keptRun l target)
 unfolding ofType all commandType
 fewest size l target [] e way =
-    omega (arith, ap length way, ap length (subst (λ (m : List ℕ). keptRun l m ≡ l) way (kept-run-self l)))
-fewest size l target (App r ∷ script) e way =
-    let m : List ℕ = l ++ (r ∷ []) in
-    let later = fewest size m target script e (subst (λ (k : List ℕ). Leads size k script target) (way .1 .2) (way .2)) in
+    rw (← way) (omega (arith, ap length (kept-run-self l)))
+fewest size l target (App r ∷ script) e (m, (inside, new, is), rest) =
+    let later = fewest size (l ++ (r ∷ [])) target script e (rw is at rest) in
     omega (arith, later, length-append l (r ∷ []), kept-run-append l (r ∷ []) target)
-fewest size l target (DelRule r ∷ script) e way =
-    let u : List ℕ = way .1 .0 in
-    let v : List ℕ = way .1 .1 in
-    let later = fewest size (u ++ v) target script e (subst (λ (k : List ℕ). Leads size k script target) (way .1 .5) (way .2)) in
-    let occurs : Sublistᴰ (u ++ v) (u ++ (r ∷ v)) = Sublistᴰ·append (Sublistᴰ·refl u) (Sublistᴰ·cons (Sublistᴰ·refl v)) in
-    let shorter = kept-run-grows (u ++ v) (u ++ (r ∷ v)) target occurs in
-    rw (way .1 .4) (omega (arith, later, shorter, length-append u v, length-append u (r ∷ v)))
+fewest size l target (DelRule r ∷ script) e (m, (u, v, inside, first, is, made), rest) =
+    let later = fewest size (u ++ v) target script e (rw made at rest) in
+    let shorter = kept-run-grows (u ++ v) (u ++ (r ∷ v)) target (sublist-around r u v) in
+    rw is (omega (arith, later, shorter, length-around r u v))
 fewest size l target (Ins i r ∷ script) e way = never e refl
 fewest size l target (DelPlace i ∷ script) e way = never e refl
 fewest size l target (Mov i j ∷ script) e way = never e refl

@@ -5,50 +5,27 @@ use native.Mathlib.Nat.{add-zero, zero-add, not-suc-le-zero, le-of-suc-le-suc}
 use native.Mathlib.Omega.{arith}
 use mathlib.Core.Path.{_≡_, refl, sym, _∙_, ap, subst}
 use mathlib.Core.Bool.{Bool, true, false}
-use mathlib.Core.Logic.{_⊎_, inl, inr, ⊎-elim, _≢_}
+use mathlib.Core.Logic.{_⊎_, inl, inr, ⊎-elim, ⊎-map, _≢_}
 use mathlib.Core.List.{List, [], _∷_}
 use mathlib.Core.Option.{none, some}
 use lib.ListN.{length, take, drop, getD, length-append}
 use lib.Seq.{length-take-le, split-at, getD-append-seam}
 use Rattle.policy.specs.Lists.{all, mem, contains, before, same}
 use Rattle.policy.specs.Replay.{lists}
-use Rattle.policy.specs.Judge.{
-  supportedBy,
-  supported,
-  ordered,
-  full,
-  firstFailing,
-  firstUnsupported,
-  firstUnordered,
-  judged,
-  verdict,
-}
+use Rattle.policy.specs.Judge.{supportedBy, supported, ordered, full, firstFailing, firstUnsupported, firstUnordered}
+use Rattle.policy.specs.Judge.{judged, verdict}
 use Rattle.policy.specs.Properties.{In, Distinct, SupportedBy, Supported, Ordered, Full, Leads, After, StandsAt}
-use Rattle.policy.specs.Claims.{
-  BreaksAt,
-  FirstUnsupported,
-  FirstUnordered,
-  AllOrdered,
-  VerdictBroken,
-  VerdictElsewhere,
-  VerdictUnordered,
-  VerdictNotFull,
-  VerdictSafe,
-}
+use Rattle.policy.specs.Claims.{BreaksAt, VerdictBroken, VerdictElsewhere, FirstUnsupported, FirstUnordered}
+use Rattle.policy.specs.Claims.{VerdictUnordered, AllOrdered, VerdictNotFull, VerdictSafe}
 use Rattle.policy.specs.declared.Command.{Command}
 use Rattle.policy.specs.declared.Verdict.{Verdict}
 use Rattle.policy.specs.declared.Verdict.the-variants.{Broken, Elsewhere, Unordered, NotFull, Safe}
-use Rattle.policy.proofs.Tests.{byTest, never, and-both, both-and, or-either, or-left, or-right, falsely}
-use Rattle.policy.proofs.Lists.{mem-in, in-mem, all-in, in-all, contains-within, within-contains, same-eq, same-refl}
-use Rattle.policy.proofs.Order.{in-middle, before-precedes, precedes-before}
-use Rattle.policy.proofs.Replay.{
-  leads-replays,
-  breaks-replays,
-  leads-or-breaks,
-  lists-are-after,
-  lists-after,
-  after-distinct,
-}
+use Rattle.policy.proofs.Tests.{byTest, never, and-both, both-and, or-either, either-or, falsely, not-first, not-second}
+use Rattle.policy.proofs.Lists.{mem-in, in-mem, place-in, all-in, in-all, contains-within, within-contains, same-eq}
+use Rattle.policy.proofs.Lists.{same-refl, in-middle}
+use Rattle.policy.proofs.Order.{before-precedes, precedes-before}
+use Rattle.policy.proofs.Replay.{leads-replays, breaks-replays, leads-or-breaks, lists-are-after, lists-after}
+use Rattle.policy.proofs.Replay.{after-distinct}
 
 -- The first element that fails a test, by its number from 0.
 record FailsFirst {A : Type 0} (test : A → Bool) (d : A) (l : List A) (k : ℕ) : Type 0 where
@@ -76,14 +53,8 @@ module _ {A : Type 0} (test : A → Bool) (d : A) where
       (λ t. ⊎-elim (λ h. inl (both-and t h)) (λ h. inr (suc (h .0), fails-later x l (h .0) t (h .1))) (all-or-first l))
       (λ f. inr (0, record { inside = omega arith; fails = f; earlier = λ j s. absurd (not-suc-le-zero s) }))
 
-  all-at : (l : List A) → all test l ≡ true → (k : ℕ) → k < length l → test (getD l k d) ≡ true
-  unfolding all
-  all-at [] e k h = absurd (not-suc-le-zero h)
-  all-at (x ∷ l) e zero h = and-both (test x) (all test l) e .0
-  all-at (x ∷ l) e (suc k) h = all-at l (and-both (test x) (all test l) e .1) k (le-of-suc-le-suc h)
-
   at-all : (l : List A) → ((k : ℕ) → k < length l → test (getD l k d) ≡ true) → all test l ≡ true
-  at-all l h = ⊎-elim (λ e. e) (λ f. never (h (f .0) (f .1 .inside)) (f .1 .fails)) (all-or-first l)
+  at-all l h = not-second (λ f. never (h (f .0) (f .1 .inside)) (f .1 .fails)) (all-or-first l)
 
 -- The rule at a place, by its number from 0.
 place-stands : (l : List ℕ) (k : ℕ) → k < length l → StandsAt l (suc k) (getD l k 0)
@@ -105,7 +76,7 @@ stands-in : {l : List ℕ} {place r : ℕ} → StandsAt l place r → In r l
 stands-in {r} s = rw (s .is) (in-middle r (s .left) (s .right))
 
 -- The tests of one list, where no rule stands twice: what they find holds, and what holds they find.
-pub supported-by-sound : (policy running : List ℕ) (r : ℕ) → Distinct policy → In r running
+supported-by-sound : (policy running : List ℕ) (r : ℕ) → Distinct policy → In r running
     → supportedBy policy running r ≡ true → SupportedBy policy running r
 unfolding supportedBy
 supported-by-sound policy running r d h e =
@@ -116,7 +87,7 @@ supported-by-sound policy running r d h e =
       led = λ x p. before-precedes x r running h (within x (precedes-before x r policy d p));
     }
 
-pub supported-by-complete : (policy running : List ℕ) (r : ℕ) → Distinct running
+supported-by-complete : (policy running : List ℕ) (r : ℕ) → Distinct running
     → SupportedBy policy running r → supportedBy policy running r ≡ true
 unfolding supportedBy
 supported-by-complete policy running r d s =
@@ -124,38 +95,34 @@ supported-by-complete policy running r d s =
     (within-contains (before r running) (before r policy)
     (λ x h. precedes-before x r running d (s .led x (before-precedes x r policy (s .named) h))))
 
-pub full-sound : (initial target running : List ℕ) → full initial target running ≡ true → Full initial target running
+full-sound : (initial target running : List ℕ) → full initial target running ≡ true → Full initial target running
 unfolding full
 full-sound initial target running e =
-    ⊎-elim (λ t. inl (contains-within running initial t)) (λ t. inr (contains-within running target t))
+    ⊎-map (contains-within running initial) (contains-within running target)
     (or-either (contains running initial) (contains running target) e)
 
-pub full-complete : (initial target running : List ℕ) → Full initial target running → full initial target running ≡ true
+full-complete : (initial target running : List ℕ) → Full initial target running → full initial target running ≡ true
 unfolding full
 full-complete initial target running h =
-    ⊎-elim (λ t. or-left (contains running target) (within-contains running initial t))
-    (λ t. or-right (contains running initial) (within-contains running target t))
-    h
+    either-or (⊎-map (within-contains running initial) (within-contains running target) h)
 
 module _ (initial target : List ℕ) (di : Distinct initial) (dt : Distinct target) (running : List ℕ) (d : Distinct running) where
   supported-sound : (r : ℕ) → In r running → supported initial target running r ≡ true → Supported initial target running r
   unfolding supported
   supported-sound r h e =
-      ⊎-elim (λ t. inl (supported-by-sound initial running r di h t)) (λ t. inr (supported-by-sound target running r dt h t))
+      ⊎-map (supported-by-sound initial running r di h) (supported-by-sound target running r dt h)
       (or-either (supportedBy initial running r) (supportedBy target running r) e)
 
   supported-complete : (r : ℕ) → Supported initial target running r → supported initial target running r ≡ true
   unfolding supported
   supported-complete r s =
-      ⊎-elim (λ t. or-left (supportedBy target running r) (supported-by-complete initial running r d t))
-      (λ t. or-right (supportedBy initial running r) (supported-by-complete target running r d t))
-      s
+      either-or (⊎-map (supported-by-complete initial running r d) (supported-by-complete target running r d) s)
 
-  pub ordered-sound : ordered initial target running ≡ true → Ordered initial target running
+  ordered-sound : ordered initial target running ≡ true → Ordered initial target running
   unfolding ordered
   ordered-sound e r h = supported-sound r h (all-in (supported initial target running) running e r h)
 
-  pub ordered-complete : Ordered initial target running → ordered initial target running ≡ true
+  ordered-complete : Ordered initial target running → ordered initial target running ≡ true
   unfolding ordered
   ordered-complete o = in-all (supported initial target running) running (λ r h. supported-complete r (o r h))
 
@@ -252,8 +219,8 @@ module _ (size : ℕ) (initial target : List ℕ) (script : List Command) where
       ⊎-elim
       (λ o. byTest (all (full initial target) way) (λ f. (Safe, (leads, o, f))) (λ f. (NotFull, (leads, o, f))))
       (λ o. let l = getD way (o .0) [] in
-      ⊎-elim (λ e. never e (o .1 .fails)) (λ u. (Unordered (o .0) (suc (u .0)), (leads, o .1, (u .0, refl, u .1))))
-      (all-or-first (supported initial target l) 0 l))
+      let u = not-first (λ e. never e (o .1 .fails)) (all-or-first (supported initial target l) 0 l) in
+      (Unordered (o .0) (suc (u .0)), (leads, o .1, (u .0, refl, u .1))))
       (all-or-first (ordered initial target) [] way)
 
   some-row : (v : Verdict) × Row v
@@ -285,7 +252,8 @@ module _ (size : ℕ) (initial target : List ℕ) (script : List Command) where
   -- the lists on the way, by the tests and by the properties
   way-test : (test : List ℕ → Bool) → all test way ≡ true → (k : ℕ) (l : List ℕ) → After size initial script k l → test l ≡ true
   way-test test e k l h =
-      let at = lists-are-after size initial script k l h in rw (at .1) at (all-at test [] way e k (at .0))
+      let at = lists-are-after size initial script k l h in
+      rw (at .1) at (all-in test way e (getD way k []) (place-in [] way k (at .0)))
 
   test-way : (test : List ℕ → Bool) → Leads size initial script target
       → ((k : ℕ) (l : List ℕ) → After size initial script k l → test l ≡ true) → all test way ≡ true
@@ -299,11 +267,10 @@ module _ (size : ℕ) (initial target : List ℕ) (script : List Command) where
   not-full-sound : Leads size initial script target → all (full initial target) way ≡ false
       → (k : ℕ) × (l : List ℕ) × After size initial script k l × ¬ Full initial target l
   not-full-sound leads e =
-      ⊎-elim (λ t. never t e)
-      (λ (k, f). let l = getD way k [] in
+      let (k, f) = not-first (λ t. never t e) (all-or-first (full initial target) [] way) in
+      let l = getD way k [] in
       let after = lists-after size initial target script leads k (f .inside) in
-      (k, l, after, λ t. never (full-complete initial target l t) (f .fails)))
-      (all-or-first (full initial target) [] way)
+      (k, l, after, λ t. never (full-complete initial target l t) (f .fails))
 
   module _ (di : Distinct initial) (dt : Distinct target) where
     after-sound : (k : ℕ) (l : List ℕ) → After size initial script k l
@@ -394,12 +361,7 @@ verdict-safe size initial target script di dt = (
       ),
 )
 
--- One half of the last row, and what a script of which only the order is known gets.
-pub all-sound-safe : (size : ℕ) (initial target : List ℕ) (script : List Command) → Distinct initial → Distinct target
-    → Leads size initial script target → AllOrdered size initial target script
-    → ((k : ℕ) (l : List ℕ) → After size initial script k l → Full initial target l) → verdict size initial target script ≡ Safe
-all-sound-safe size initial target script di dt leads o f = verdict-safe size initial target script di dt .1 (leads, o, f)
-
+-- a script of which only the order is known gets one of the last two verdicts
 pub all-ordered-passes : (size : ℕ) (initial target : List ℕ) (script : List Command) → Distinct initial → Distinct target
     → Leads size initial script target → AllOrdered size initial target script
     → (verdict size initial target script ≡ NotFull) ⊎ (verdict size initial target script ≡ Safe)

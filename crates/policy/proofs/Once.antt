@@ -1,9 +1,9 @@
--- Demand 3 from what a script's steps say: each flow changes once. No command leads from a list that follows the target on a flow
--- to one that follows the initial policy, unless the two decide alike: the rules by which they decide would have changed their
--- order, or the target's would have gone, or the initial policy's come. Assumes nothing.
-use Prim.Native.Nat.{ℕ, zero, suc, zero-le, suc-le-suc}
+-- Demand 3 from what a script's steps say: each flow changes once. No command leads from a list that agrees with the target on a
+-- flow to one that agrees with the initial policy, unless the two decide alike: the rules by which they decide would have changed
+-- their order, or the target's would have gone, or the initial policy's come. Assumes nothing.
+use Prim.Native.Nat.{ℕ, suc, zero-le, suc-le-suc}
+use native.Mathlib.Nat.{not-suc-le-zero}
 use native.Mathlib.Omega.{arith}
-use native.Mathlib.Nat.{not-suc-le-zero, le-of-suc-le-suc}
 use mathlib.Core.Path.{_≡_, refl, sym, _∙_, ap}
 use mathlib.Core.Bool.{true, false}
 use mathlib.Core.Logic.{_⊎_, inl, inr, ⊎-elim, _≢_}
@@ -12,33 +12,27 @@ use borrow.Author.Tests.{eqb-true, eqb-false}
 use lib.Dec.{eqb}
 use Rattle.policy.specs.Policy.{Matching, decided, sameAction}
 use Rattle.policy.specs.Replay.{lists}
-use Rattle.policy.specs.Properties.{Makes, After}
+use Rattle.policy.specs.Properties.{Makes}
 use Rattle.policy.specs.Claims.{changePoint, ChangesOnce}
 use Rattle.policy.specs.declared.Action.{Action}
 use Rattle.policy.specs.declared.Action.the-variants.{Deny, Permit}
 use Rattle.policy.specs.declared.Command.{Command}
-use Rattle.policy.proofs.Tests.{byTest, never}
-use Rattle.policy.proofs.Way.{Rivals, Forward, Sound, Steps}
-use Rattle.policy.proofs.Replay.{makes-unique, makes-passes}
-use Rattle.policy.proofs.Decisions.{
-  FirstHit,
-  Follows,
-  first-hit-decides,
-  no-hit-decides,
-  first-hit-precedes,
-  follows-decides,
-  follows-one,
-}
+use Rattle.policy.proofs.Tests.{byTest, never, not-second}
+use Rattle.policy.proofs.Way.{Rivals, Forward, Sound, Steps, steps-first}
+use Rattle.policy.proofs.Commands.{makes-passes}
+use Rattle.policy.proofs.Replay.{after-none, after-cases}
+use Rattle.policy.proofs.Decisions.{FirstHit, Agrees, first-hit-decides, no-hit-decides, first-hit-precedes}
+use Rattle.policy.proofs.Decisions.{agrees-decides, agrees-with-one}
 
 -- Equal actions.
-pub same-action-eq : (a b : Action) → sameAction a b ≡ true → a ≡ b
+same-action-eq : (a b : Action) → sameAction a b ≡ true → a ≡ b
 unfolding sameAction
 same-action-eq Deny Deny e = refl
 same-action-eq Deny Permit e = never e refl
 same-action-eq Permit Deny e = never e refl
 same-action-eq Permit Permit e = refl
 
-pub eq-same-action : (a b : Action) → a ≡ b → sameAction a b ≡ true
+eq-same-action : (a b : Action) → a ≡ b → sameAction a b ≡ true
 unfolding sameAction
 eq-same-action Deny Deny e = refl
 eq-same-action Deny Permit e = cc
@@ -52,14 +46,13 @@ module _ (m : Matching) (initial target : List ℕ) where
       record {
         old = h .there;
         new = k .there;
-        unlike = n;
         initially = first-hit-precedes m a b initial h (k .hits) n;
         finally = first-hit-precedes m b a target k (h .hits) (λ e. n (sym e));
       }
 
   -- no command leads back from the target's rule to the initial policy's
-  pub no-way-back : (l n : List ℕ)
-      → Forward initial target l n → Follows m target l → Follows m initial n → decided m initial ≡ decided m target
+  no-way-back : (l n : List ℕ)
+      → Forward initial target l n → Agrees m target l → Agrees m initial n → decided m initial ≡ decided m target
   no-way-back l n f (inl b) (inl a) =
       byTest (eqb (a .0) (b .0))
       (λ t. first-hit-decides m initial (a .0) (a .1)
@@ -77,51 +70,25 @@ module _ (m : Matching) (initial target : List ℕ) where
       never (a .1 .hits) (none .1 (a .0) already)
   no-way-back l n f (inr none) (inr both) = no-hit-decides m initial (both .0) ∙ sym (no-hit-decides m target (none .0))
 
-  sound-follows : (l : List ℕ) → Sound initial target l → Follows m initial l ⊎ Follows m target l
-  sound-follows l s = follows-one m initial target l (s .distinct) (s .ordered) (s .full)
+  sound-agrees : (l : List ℕ) → Sound initial target l → Agrees m initial l ⊎ Agrees m target l
+  sound-agrees l s = agrees-with-one m initial target l (s .distinct) (s .ordered) (s .full)
 
   -- a list after one that decides as the target decides so too
-  pub forward-keeps : (l n : List ℕ) → Sound initial target l → Sound initial target n → Forward initial target l n
+  forward-keeps : (l n : List ℕ) → Sound initial target l → Sound initial target n → Forward initial target l n
       → decided m l ≡ decided m target → decided m n ≡ decided m target
   forward-keeps l n sl sn f e =
       ⊎-elim
-      (λ back. follows-decides m initial n back
-      ∙ ⊎-elim (λ old. sym (follows-decides m initial l old) ∙ e) (λ new. no-way-back l n f new back) (sound-follows l sl))
-      (λ on. follows-decides m target n on)
-      (sound-follows n sn)
+      (λ back. agrees-decides m initial n back
+      ∙ ⊎-elim (λ old. sym (agrees-decides m initial l old) ∙ e) (λ new. no-way-back l n f new back) (sound-agrees l sl))
+      (λ on. agrees-decides m target n on)
+      (sound-agrees n sn)
 
   -- a list that does not decide as the target decides as the initial policy
-  pub not-yet : (l : List ℕ) → Sound initial target l → decided m l ≢ decided m target → decided m l ≡ decided m initial
+  not-yet : (l : List ℕ) → Sound initial target l → decided m l ≢ decided m target → decided m l ≡ decided m initial
   not-yet l s u =
-      ⊎-elim (λ old. follows-decides m initial l old) (λ new. absurd (u (follows-decides m target l new))) (sound-follows l s)
-
--- an empty script has one list
-pub after-none : (size : ℕ) (l x : List ℕ) (k : ℕ) → After size l [] k x → l ≡ x
-after-none size l x zero a = a .leads
-after-none size l x (suc k) a = a .leads
-
--- the first list of a script's steps
-pub steps-first : (P : List ℕ → Type 0) (E : List ℕ → List ℕ → Type 0) (size : ℕ) (l n : List ℕ) (script : List Command)
-    → Steps P E size l script n → P l
-steps-first P E size l n [] s = s .0
-steps-first P E size l n (c ∷ script) s = s .0
+      agrees-decides m initial l (not-second (λ new. u (agrees-decides m target l new)) (sound-agrees l s))
 
 module _ (m : Matching) (size : ℕ) (initial target : List ℕ) where
-  -- the list after some commands is the first one, or comes after the first command
-  pub after-cases : (l n x : List ℕ) (c : Command) (script : List Command) (k : ℕ)
-      → Makes size l c n → After size l (c ∷ script) k x
-      → ((k ≡ 0) × (l ≡ x)) ⊎ ((j : ℕ) × (k ≡ suc j) × After size n script j x)
-  after-cases l n x c script zero made a = inl (refl, a .leads)
-  after-cases l n x c script (suc k) made a =
-      inr (
-        k,
-        refl,
-        record {
-          reached = le-of-suc-le-suc (a .reached);
-          leads = rw (makes-unique size l c (a .leads .0) n (a .leads .1) made) at (a .leads .2);
-        },
-      )
-
   -- The point of a script, by what its first list decides.
   point-now : (l : List ℕ) (script : List Command)
       → decided m l ≡ decided m target → changePoint m target (lists size l script) ≡ 0
@@ -144,7 +111,7 @@ module _ (m : Matching) (size : ℕ) (initial target : List ℕ) where
         within = zero-le;
         before = λ k x h. absurd (not-suc-le-zero h);
         from = λ k x h a. ⊎-elim (λ z. ap (decided m) (sym (z .1)) ∙ e)
-            (λ j. once .from (j .0) x (rw (once .agreed f) zero-le) (j .2)) (after-cases l n x c script k made a);
+            (λ j. once .from (j .0) x (rw (once .agreed f) zero-le) (j .2)) (after-cases size l n x c script k made a);
         agreed = λ e. refl;
       }
 
@@ -156,16 +123,17 @@ module _ (m : Matching) (size : ℕ) (initial target : List ℕ) where
         within = suc-le-suc (once .within);
         before = λ k x h a. ⊎-elim (λ z. ap (decided m) (sym (z .1)))
             (λ j. once .before (j .0) x (omega (arith, j .1)) (j .2) ∙ like (λ e. omega (arith, j .1, once .agreed e)))
-            (after-cases l n x c script k made a);
+            (after-cases size l n x c script k made a);
         from = λ k x h a. ⊎-elim (λ z. absurd (omega (arith, z .0)))
-            (λ j. once .from (j .0) x (omega (arith, j .1)) (j .2)) (after-cases l n x c script k made a);
+            (λ j. once .from (j .0) x (omega (arith, j .1)) (j .2)) (after-cases size l n x c script k made a);
         agreed = λ e. absurd (differ e);
       }
 
-  -- every list on the way sees the flow change once from where it stands
-  from-here : (l : List ℕ) (script : List Command) → Steps (Sound initial target) (Forward initial target) size l script target
+  -- from every list on the way the flow changes once
+  pub steps-change-once : (l : List ℕ) (script : List Command)
+      → Steps (Sound initial target) (Forward initial target) size l script target
       → ChangesOnce m size l target script (changePoint m target (lists size l script))
-  from-here l [] s =
+  steps-change-once l [] s =
       let e : decided m l ≡ decided m target = ap (decided m) (s .1) in
       rw (point-now l [] e)
       record {
@@ -174,21 +142,14 @@ module _ (m : Matching) (size : ℕ) (initial target : List ℕ) where
         from = λ k x h a. ap (decided m) (sym (after-none size l x k a)) ∙ e;
         agreed = λ e. refl;
       }
-  from-here l (c ∷ script) s =
-      let n = s .1 .0 in
-      let made = s .1 .1 in
-      let next = steps-first (Sound initial target) (Forward initial target) size n target script (s .1 .3) in
-      let once = from-here n script (s .1 .3) in
+  steps-change-once l (c ∷ script) (sound, (n, made, forward, rest)) =
+      let next = steps-first (Sound initial target) (Forward initial target) size n target script rest in
+      let once = steps-change-once n script rest in
       byTest (sameAction (decided m l) (decided m target))
       (λ t. let e = same-action-eq (decided m l) (decided m target) t in
       rw (point-now l (c ∷ script) e)
-      (changed-already l n c script _ made e (forward-keeps m initial target l n (s .0) next (s .1 .2) e) once))
+      (changed-already l n c script _ made e (forward-keeps m initial target l n sound next forward e) once))
       (λ u. let differ : decided m l ≢ decided m target = λ e. never (eq-same-action _ _ e) u in
       rw (point-later l n c script made u)
       (changed-later l n c script _ made differ
-      (λ later. not-yet m initial target n next later ∙ sym (not-yet m initial target l (s .0) differ)) once))
-
-  pub steps-change-once : (script : List Command)
-      → Steps (Sound initial target) (Forward initial target) size initial script target
-      → ChangesOnce m size initial target script (changePoint m target (lists size initial script))
-  steps-change-once script s = from-here initial script s
+      (λ later. not-yet m initial target n next later ∙ sym (not-yet m initial target l sound differ)) once))

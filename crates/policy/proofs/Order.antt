@@ -1,39 +1,22 @@
--- Rules that differ, the order of two rules in a list, lists that occur in others. The idea throughout: a list with a rule in it is
--- `u ++ (r ∷ v)`, and laws on `++` do the rest. Assumes nothing.
-use Prim.Native.Nat.{ℕ, zero, suc, _+_, _≤_, zero-le, suc-le-suc}
+-- Rules that differ, the order of two rules in a list, lists that occur in order in others. The idea throughout: a list with a
+-- rule in it is `u ++ (r ∷ v)`, and laws on `++` do the rest. Assumes nothing.
+use Prim.Native.Nat.{ℕ, _≤_, zero-le}
 use native.Mathlib.Omega.{arith}
-use mathlib.Core.Path.{_≡_, refl, sym, _∙_, ap, subst}
-use mathlib.Core.Bool.{Bool, true, false, cond, not, _&&_, _||_}
-use mathlib.Core.Logic.{_⊎_, inl, inr, ⊎-elim, _≢_}
-use mathlib.Core.List.{
-  List,
-  [],
-  _∷_,
-  _++_,
-  append-assoc,
-  List·Memᴰ,
-  List·Memᴰ·head,
-  List·Memᴰ·tail,
-  Memᴰ·cast,
-  Memᴰ·append-left,
-  Memᴰ·append-right,
-  List·Memᴰ·append-cases,
-  List·Memᴰ·cases-cons,
-  List·Memᴰ·not-nil,
-  Sublistᴰ,
-  Sublistᴰ·slnil,
-  Sublistᴰ·cons,
-  Sublistᴰ·cons-cons,
-  Sublistᴰ·nil-sublist,
-  Sublistᴰ·cases-cons-cons,
-}
-use borrow.Author.Tests.{eqb-true, eqb-false, eq-eqb, ne-eqb}
+use mathlib.Core.Path.{_≡_, refl, sym, _∙_, ap}
+use mathlib.Core.Bool.{true, not}
+use mathlib.Core.Logic.{_⊎_, inl, inr, ⊎-elim, ⊎-map, _≢_}
+use mathlib.Core.List.{List, [], _∷_, _++_}
+use mathlib.Core.List.{List·Memᴰ·head, List·Memᴰ·tail, Memᴰ·cast, Memᴰ·append-left, Memᴰ·append-right, List·Memᴰ·append-cases}
+use mathlib.Core.List.{List·Memᴰ·cases-cons, List·Memᴰ·not-nil}
+use mathlib.Core.List.{Sublistᴰ, Sublistᴰ·slnil, Sublistᴰ·cons, Sublistᴰ·cons-cons, Sublistᴰ·nil-sublist, Sublistᴰ·refl}
+use mathlib.Core.List.{Sublistᴰ·trans, Sublistᴰ·append, Sublistᴰ·cases-cons, Sublistᴰ·cases-cons-cons}
+use borrow.Author.Tests.{eqb-true, eqb-false}
 use lib.Dec.{eqb}
-use lib.ListN.{length, length-append}
-use Rattle.policy.specs.Lists.{all, pick, mem, before, after, occurs, differ}
+use lib.ListN.{length}
+use Rattle.policy.specs.Lists.{mem, before, after, occurs, differ}
 use Rattle.policy.specs.Properties.{In, Distinct, Within, Precedes}
-use Rattle.policy.proofs.Tests.{byTest, never, and-both, both-and, or-either, or-left, or-right, or-neither, not-true, false-not, falsely}
-use Rattle.policy.proofs.Lists.{mem-in, in-mem, not-mem, not-in, before-after, not-before, before-at}
+use Rattle.policy.proofs.Tests.{byTest, never, and-both, both-and, not-true, false-not, not-first, not-second}
+use Rattle.policy.proofs.Lists.{not-mem, not-in, length-around, around-cases, before-after, before-at, after-at}
 
 -- Rules that differ.
 pub differ-distinct : (l : List ℕ) → differ l ≡ true → Distinct l
@@ -68,31 +51,36 @@ apart-distinct (x ∷ u) v d e apart = (
   apart-distinct u v (d .1) e (λ r t k. apart r (List·Memᴰ·tail t) k),
 )
 
--- a rule between two parts
-pub in-around : (x r : ℕ) (u v : List ℕ) → In r (u ++ v) → In r (u ++ (x ∷ v))
-in-around x r u v h =
-    ⊎-elim (λ t. Memᴰ·append-left (x ∷ v) t) (λ t. Memᴰ·append-right u (List·Memᴰ·tail t)) (List·Memᴰ·append-cases u h)
+-- a rule between two parts is in neither
+pub not-earlier : (x : ℕ) (u v : List ℕ) → Distinct (u ++ (x ∷ v)) → ¬ In x u
+not-earlier x u v d h = distinct-apart u (x ∷ v) d x h (List·Memᴰ·head refl)
 
-pub in-middle : (x : ℕ) (u v : List ℕ) → In x (u ++ (x ∷ v))
-in-middle x u v = Memᴰ·append-right u (List·Memᴰ·head refl)
-
-pub around-cases : (x r : ℕ) (u v : List ℕ) → In r (u ++ (x ∷ v)) → (r ≡ x) ⊎ In r (u ++ v)
-around-cases x r u v h =
-    ⊎-elim (λ t. inr (Memᴰ·append-left v t))
-    (λ t. ⊎-elim (λ e. inl e) (λ k. inr (Memᴰ·append-right u k)) (List·Memᴰ·cases-cons t))
-    (List·Memᴰ·append-cases u h)
+pub not-later : (x : ℕ) (u v : List ℕ) → Distinct (u ++ (x ∷ v)) → ¬ In x v
+not-later x u v d = distinct-right u (x ∷ v) d .0
 
 pub distinct-around : (x : ℕ) (u v : List ℕ) → Distinct (u ++ (x ∷ v)) → ¬ In x (u ++ v) × Distinct (u ++ v)
-distinct-around x u v d =
-    let right = distinct-right u (x ∷ v) d in (
-      λ h. ⊎-elim (λ t. distinct-apart u (x ∷ v) d x t (List·Memᴰ·head refl)) (λ t. right .0 t) (List·Memᴰ·append-cases u h),
-      apart-distinct u v (distinct-left u (x ∷ v) d) (right .1) (λ r t k. distinct-apart u (x ∷ v) d r t (List·Memᴰ·tail k)),
-    )
+distinct-around x u v d = (
+  λ h. ⊎-elim (λ t. not-earlier x u v d t) (λ t. not-later x u v d t) (List·Memᴰ·append-cases u h),
+  apart-distinct u v (distinct-left u (x ∷ v) d) (distinct-right u (x ∷ v) d .1)
+      (λ r t k. distinct-apart u (x ∷ v) d r t (List·Memᴰ·tail k)),
+)
 
 pub around-distinct : (x : ℕ) (u v : List ℕ) → ¬ In x (u ++ v) → Distinct (u ++ v) → Distinct (u ++ (x ∷ v))
 around-distinct x u v n d =
     apart-distinct u (x ∷ v) (distinct-left u v d) ((λ h. n (Memᴰ·append-right u h)), distinct-right u v d)
-    (λ r t k. ⊎-elim (λ e. n (Memᴰ·append-left v (Memᴰ·cast (sym e) t))) (λ h. distinct-apart u v d r t h) (List·Memᴰ·cases-cons k))
+    (λ r t k.
+    ⊎-elim (λ e. n (Memᴰ·append-left v (Memᴰ·cast (sym e) t))) (λ h. distinct-apart u v d r t h) (List·Memᴰ·cases-cons k))
+
+-- rules that differ and are all in another list are not more than that list has
+pub within-length : (l m : List ℕ) → Distinct l → Within l m → length l ≤ length m
+within-length [] m d w = zero-le
+within-length (x ∷ l) m d w =
+    let u = before x m in
+    let v = after x m in
+    let at : m ≡ u ++ (x ∷ v) = before-after x m (w x (List·Memᴰ·head refl)) in
+    let rest : Within l (u ++ v) =
+    λ r h. not-first (λ e. d .0 (Memᴰ·cast (sym e) h)) (around-cases x r u v (rw at at (w r (List·Memᴰ·tail h)))) in
+    omega (arith, within-length l (u ++ v) (d .1) rest, ap length at ∙ length-around x u v)
 
 -- The order of two rules.
 pub precedes-in-left : (a b : ℕ) (l : List ℕ) → Precedes a b l → In a l
@@ -121,23 +109,12 @@ precedes-cases a b [] v p = inr (inr p)
 precedes-cases a b (x ∷ u) v p =
     ⊎-elim
     (λ h. ⊎-elim (λ t. inl (inl (h .0, t))) (λ t. inr (inl (List·Memᴰ·head (sym (h .0)), t))) (List·Memᴰ·append-cases u (h .1)))
-    (λ t. ⊎-elim (λ k. inl (inr k)) (⊎-elim (λ k. inr (inl (List·Memᴰ·tail (k .0), k .1))) (λ k. inr (inr k))) (precedes-cases a b u v t))
+    (λ t.
+    ⊎-elim (λ k. inl (inr k)) (⊎-elim (λ k. inr (inl (List·Memᴰ·tail (k .0), k .1))) (λ k. inr (inr k)))
+    (precedes-cases a b u v t))
     p
 
--- an earlier occurrence in the list is what stands before
-pub before-precedes : (a b : ℕ) (l : List ℕ) → In b l → In a (before b l) → Precedes a b l
-before-precedes a b l h k =
-    rw (before-after b l h) (precedes-across a b (before b l) (b ∷ after b l) k (List·Memᴰ·head refl))
-
-pub precedes-before : (a b : ℕ) (l : List ℕ) → Distinct l → Precedes a b l → In a (before b l)
-unfolding before
-precedes-before a b [] d p = absurd p
-precedes-before a b (x ∷ l) d p =
-    byTest (eqb x b)
-    (λ t. let e : x ≡ b = eqb-true x b t in
-    absurd (⊎-elim (λ h. d .0 (Memᴰ·cast e (h .1))) (λ k. d .0 (Memᴰ·cast e (precedes-in-right a b l k))) p))
-    (λ f. rw f (⊎-elim (λ h. List·Memᴰ·head (sym (h .0))) (λ k. List·Memᴰ·tail (precedes-before a b l (d .1) k)) p))
-
+-- it is a strict order, and of two rules one comes first
 pub precedes-asym : (a b : ℕ) (l : List ℕ) → Distinct l → Precedes a b l → Precedes b a l → ⊥
 precedes-asym a b [] d p q = p
 precedes-asym a b (x ∷ l) d p q =
@@ -149,13 +126,20 @@ precedes-asym a b (x ∷ l) d p q =
 pub precedes-irreflexive : (a : ℕ) (l : List ℕ) → Distinct l → Precedes a a l → ⊥
 precedes-irreflexive a l d p = precedes-asym a a l d p p
 
+pub precedes-trans : (a b c : ℕ) (l : List ℕ) → Distinct l → Precedes a b l → Precedes b c l → Precedes a c l
+precedes-trans a b c [] d p q = p
+precedes-trans a b c (x ∷ l) d p q =
+    ⊎-elim
+    (λ h. inl (h .0, ⊎-elim (λ k. k .1) (λ k. precedes-in-right b c l k) q))
+    (λ h. inr (precedes-trans a b c l (d .1) h (not-first (λ k. d .0 (Memᴰ·cast (k .0) (precedes-in-right a b l h))) q)))
+    p
+
 pub precedes-total : (a b : ℕ) (l : List ℕ) → In a l → In b l → a ≢ b → Precedes a b l ⊎ Precedes b a l
 precedes-total a b [] h k n = absurd (List·Memᴰ·not-nil h)
 precedes-total a b (x ∷ l) h k n =
     ⊎-elim
-    (λ e. ⊎-elim (λ f. absurd (n (e ∙ sym f))) (λ t. inl (inl (sym e, t))) (List·Memᴰ·cases-cons k))
-    (λ t. ⊎-elim (λ f. inr (inl (sym f, t)))
-    (λ s. ⊎-elim (λ p. inl (inr p)) (λ p. inr (inr p)) (precedes-total a b l t s n)) (List·Memᴰ·cases-cons k))
+    (λ e. inl (inl (sym e, not-first (λ f. n (e ∙ sym f)) (List·Memᴰ·cases-cons k))))
+    (λ t. ⊎-elim (λ f. inr (inl (sym f, t))) (λ s. ⊎-map inr inr (precedes-total a b l t s n)) (List·Memᴰ·cases-cons k))
     (List·Memᴰ·cases-cons h)
 
 -- a third rule put in or taken out leaves the order of two others
@@ -170,10 +154,44 @@ around-precedes a b x u v na nb p =
     ⊎-elim (λ h. precedes-left a b u v h)
     (
     ⊎-elim
-    (λ h. precedes-across a b u v (h .0) (⊎-elim (λ e. absurd (nb e)) (λ t. t) (List·Memᴰ·cases-cons (h .1))))
-    (λ h. precedes-right a b u v (⊎-elim (λ e. absurd (na (sym (e .0)))) (λ t. t) h))
+    (λ h. precedes-across a b u v (h .0) (not-first nb (List·Memᴰ·cases-cons (h .1))))
+    (λ h. precedes-right a b u v (not-first (λ e. na (sym (e .0))) h))
     )
     (precedes-cases a b u (x ∷ v) p)
+
+-- The order of two rules is what stands before a rule, and after it.
+pub before-precedes : (a b : ℕ) (l : List ℕ) → In b l → In a (before b l) → Precedes a b l
+before-precedes a b l h k =
+    rw (before-after b l h) (precedes-across a b (before b l) (b ∷ after b l) k (List·Memᴰ·head refl))
+
+pub precedes-before : (a b : ℕ) (l : List ℕ) → Distinct l → Precedes a b l → In a (before b l)
+unfolding before
+precedes-before a b [] d p = absurd p
+precedes-before a b (x ∷ l) d p =
+    byTest (eqb x b)
+    (λ t. let e : x ≡ b = eqb-true x b t in
+    absurd (⊎-elim (λ h. d .0 (Memᴰ·cast e (h .1))) (λ k. d .0 (Memᴰ·cast e (precedes-in-right a b l k))) p))
+    (λ f. rw f (⊎-elim (λ h. List·Memᴰ·head (sym (h .0))) (λ k. List·Memᴰ·tail (precedes-before a b l (d .1) k)) p))
+
+pub after-precedes : (a b : ℕ) (l : List ℕ) → In b (after a l) → Precedes a b l
+unfolding after
+after-precedes a b [] h = absurd (List·Memᴰ·not-nil h)
+after-precedes a b (x ∷ l) h =
+    byTest (eqb x a) (λ t. inl (eqb-true x a t, rw t at h)) (λ f. inr (after-precedes a b l (rw f at h)))
+
+pub precedes-after : (a b : ℕ) (l : List ℕ) → Precedes a b l → In b (after a l)
+unfolding after
+precedes-after a b [] p = absurd p
+precedes-after a b (x ∷ l) p =
+    byTest (eqb x a)
+    (λ t. rw t (⊎-elim (λ h. h .1) (λ k. precedes-in-right a b l k) p))
+    (λ f. rw f (precedes-after a b l (not-first (λ h. eqb-false x a f (h .0)) p)))
+
+pub precedes-to : (r x : ℕ) (u v : List ℕ) → Distinct (u ++ (r ∷ v)) → Precedes x r (u ++ (r ∷ v)) → In x u
+precedes-to r x u v d p = rw (before-at r u v (not-earlier r u v d)) at (precedes-before x r (u ++ (r ∷ v)) d p)
+
+pub precedes-from : (r x : ℕ) (u v : List ℕ) → Distinct (u ++ (r ∷ v)) → Precedes r x (u ++ (r ∷ v)) → In x v
+precedes-from r x u v d p = rw (after-at r u v (not-earlier r u v d)) at (precedes-after r x (u ++ (r ∷ v)) p)
 
 -- Lists that occur in order in others.
 pub sublist-in : {k l : List ℕ} → Sublistᴰ k l → (r : ℕ) → In r k → In r l
@@ -193,6 +211,41 @@ sublist-precedes a b (Sublistᴰ·cons s) p = inr (sublist-precedes a b s p)
 sublist-precedes a b (Sublistᴰ·cons-cons e s) p =
     ⊎-elim (λ h. inl (sym e ∙ h .0, sublist-in s b (h .1))) (λ t. inr (sublist-precedes a b s t)) p
 
+pub sublist-length : {k l : List ℕ} → Sublistᴰ k l → length k ≤ length l
+sublist-length Sublistᴰ·slnil = omega arith
+sublist-length (Sublistᴰ·cons s) = omega (arith, sublist-length s)
+sublist-length (Sublistᴰ·cons-cons e s) = omega (arith, sublist-length s)
+
+pub sublist-around : (x : ℕ) (u v : List ℕ) → Sublistᴰ (u ++ v) (u ++ (x ∷ v))
+sublist-around x u v = Sublistᴰ·append (Sublistᴰ·refl u) (Sublistᴰ·cons (Sublistᴰ·refl v))
+
+pub sublist-tails : {x y : ℕ} {k l : List ℕ} → Sublistᴰ (x ∷ k) (y ∷ l) → Sublistᴰ k l
+sublist-tails {k} s =
+    ⊎-elim (λ h. Sublistᴰ·trans (Sublistᴰ·cons (Sublistᴰ·refl k)) h) (λ h. h .1) (Sublistᴰ·cases-cons-cons s)
+
+pub sublist-past : {x y : ℕ} {k l : List ℕ} → x ≢ y → Sublistᴰ (x ∷ k) (y ∷ l) → Sublistᴰ (x ∷ k) l
+sublist-past n s = not-second (λ h. n (h .0)) (Sublistᴰ·cases-cons-cons s)
+
+pub sublist-after : (r : ℕ) (k l : List ℕ) → In r l → Sublistᴰ k (after r l) → Sublistᴰ (r ∷ k) l
+unfolding after
+sublist-after r k [] h s = absurd (List·Memᴰ·not-nil h)
+sublist-after r k (x ∷ l) h s =
+    byTest (eqb x r)
+    (λ t. Sublistᴰ·cons-cons (sym (eqb-true x r t)) (rw t at s))
+    (λ f. let there : In r l = not-first (λ e. eqb-false x r f (sym e)) (List·Memᴰ·cases-cons h) in
+    Sublistᴰ·cons (sublist-after r k l there (rw f at s)))
+
+-- what occurs in two lists one after the other is a part that occurs in the first and then one that occurs in the second
+pub sublist-parts : (k u v : List ℕ) → Sublistᴰ k (u ++ v)
+    → (front : List ℕ) × (rest : List ℕ) × (k ≡ front ++ rest) × Sublistᴰ front u × Sublistᴰ rest v
+sublist-parts k [] v s = ([], k, refl, Sublistᴰ·slnil, s)
+sublist-parts k (x ∷ u) v s =
+    ⊎-elim
+    (λ h. let parts = sublist-parts k u v h in (parts .0, parts .1, parts .2, Sublistᴰ·cons (parts .3), parts .4))
+    (λ h. let parts = sublist-parts (h .0) u v (h .2) in
+    (x ∷ parts .0, parts .1, h .1 ∙ ap (λ (l : List ℕ). x ∷ l) (parts .2), Sublistᴰ·cons-cons refl (parts .3), parts .4))
+    (Sublistᴰ·cases-cons s)
+
 pub occurs-sublist : (k l : List ℕ) → occurs k l ≡ true → Sublistᴰ k l
 unfolding occurs
 occurs-sublist [] [] e = Sublistᴰ·slnil
@@ -203,11 +256,6 @@ occurs-sublist (x ∷ k) (y ∷ l) e =
     (λ t. Sublistᴰ·cons-cons (sym (eqb-true y x t)) (occurs-sublist k l (rw (t, occurs) at e)))
     (λ f. Sublistᴰ·cons (occurs-sublist (x ∷ k) l (rw (f, occurs) at e)))
 
--- the longest that could be needed: a list whose first rule may be left out still occurs
-sublist-tail : {x : ℕ} {k l : List ℕ} → Sublistᴰ (x ∷ k) l → Sublistᴰ k l
-sublist-tail (Sublistᴰ·cons s) = Sublistᴰ·cons (sublist-tail s)
-sublist-tail (Sublistᴰ·cons-cons e s) = Sublistᴰ·cons s
-
 pub sublist-occurs : (k l : List ℕ) → Sublistᴰ k l → occurs k l ≡ true
 unfolding occurs
 sublist-occurs [] [] s = refl
@@ -215,48 +263,5 @@ sublist-occurs (x ∷ k) [] s = elim s [ ]
 sublist-occurs [] (y ∷ l) s = refl
 sublist-occurs (x ∷ k) (y ∷ l) s =
     byTest (eqb y x)
-    (λ t. rw (t, occurs) (sublist-occurs k l (⊎-elim (λ h. sublist-tail h) (λ h. h .1) (Sublistᴰ·cases-cons-cons s))))
-    (λ f. rw (f, occurs) (sublist-occurs (x ∷ k) l (⊎-elim (λ h. h) (λ h. absurd (eqb-false y x f (sym (h .0)))) (Sublistᴰ·cases-cons-cons s))))
-
--- rules that differ and are all in another list are not more than that list has
-pub within-length : (l m : List ℕ) → Distinct l → Within l m → length l ≤ length m
-within-length [] m d w = zero-le
-within-length (x ∷ l) m d w =
-    let at : m ≡ before x m ++ (x ∷ after x m) = before-after x m (w x (List·Memᴰ·head refl)) in
-    let rest : Within l (before x m ++ after x m) =
-    λ r h. ⊎-elim (λ e. absurd (d .0 (Memᴰ·cast (sym e) h))) (λ t. t)
-    (around-cases x r (before x m) (after x m) (rw at at (w r (List·Memᴰ·tail h)))) in
-    let shorter : length l ≤ length (before x m ++ after x m) = within-length l (before x m ++ after x m) (d .1) rest in
-    omega (arith, shorter, length-append (before x m) (after x m), ap length at ∙ length-append (before x m) (x ∷ after x m))
-
--- What is picked.
-pub pick-in : (test : ℕ → Bool) (l : List ℕ) (r : ℕ) → In r (pick test l) → In r l × (test r ≡ true)
-unfolding pick
-pick-in test [] r h = absurd (List·Memᴰ·not-nil h)
-pick-in test (x ∷ l) r h =
-    byTest (test x)
-    (λ t. ⊎-elim (λ e. (List·Memᴰ·head e, ap test e ∙ t)) (λ k. let at = pick-in test l r k in (List·Memᴰ·tail (at .0), at .1)) (List·Memᴰ·cases-cons (rw t at h)))
-    (λ f. let at = pick-in test l r (rw f at h) in (List·Memᴰ·tail (at .0), at .1))
-
-pub in-pick : (test : ℕ → Bool) (l : List ℕ) (r : ℕ) → In r l → test r ≡ true → In r (pick test l)
-unfolding pick
-in-pick test [] r h e = absurd (List·Memᴰ·not-nil h)
-in-pick test (x ∷ l) r h e =
-    ⊎-elim (λ s. let t : test x ≡ true = ap test (sym s) ∙ e in rw t (List·Memᴰ·head s)) (λ t. Memᴰ·append-right (cond (test x) (x ∷ []) []) (in-pick test l r t e)) (List·Memᴰ·cases-cons h)
-
-pub pick-sublist : (test : ℕ → Bool) (l : List ℕ) → Sublistᴰ (pick test l) l
-unfolding pick
-pick-sublist test [] = Sublistᴰ·slnil
-pick-sublist test (x ∷ l) =
-    byTest (test x) (λ t. rw t (Sublistᴰ·cons-cons refl (pick-sublist test l))) (λ f. rw f (Sublistᴰ·cons (pick-sublist test l)))
-
-pub pick-append : (test : ℕ → Bool) (u v : List ℕ) → pick test (u ++ v) ≡ pick test u ++ pick test v
-unfolding pick
-pick-append test [] v = refl
-pick-append test (x ∷ u) v = rw (pick-append test u v) (sym (append-assoc (cond (test x) (x ∷ []) []) (pick test u) (pick test v)))
-
-pub pick-count : (test : ℕ → Bool) (l : List ℕ) → length (pick test l) + length (pick (λ r. not (test r)) l) ≡ length l
-unfolding pick
-pick-count test [] = refl
-pick-count test (x ∷ l) =
-    byTest (test x) (λ t. rw t (omega (arith, pick-count test l))) (λ f. rw f (omega (arith, pick-count test l)))
+    (λ t. rw (t, occurs) (sublist-occurs k l (sublist-tails s)))
+    (λ f. rw (f, occurs) (sublist-occurs (x ∷ k) l (sublist-past (λ e. eqb-false y x f (sym e)) s)))

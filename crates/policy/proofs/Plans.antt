@@ -1,45 +1,32 @@
--- What verdicts say of flows, and what verdicts the plans get: the laws on lists, on the judge and on the two scripts put together.
--- Assumes nothing.
+-- What verdicts say of flows, and which verdicts the plans get: the laws on decisions, on the judge and on the two scripts put
+-- together. Where nothing is to be done, the counts leave no command. Assumes nothing.
 use Prim.Native.Nat.{ℕ, suc, _+_, _<_}
 use native.Mathlib.Omega.{arith}
-use mathlib.Core.Path.{_≡_, refl, sym, ap}
-use mathlib.Core.Logic.{inl, ⊎-elim}
-use mathlib.Core.List.{List, [], _∷_, List·Memᴰ·not-nil, List·Memᴰ·cases-cons, Sublistᴰ·refl}
-use mathlib.Core.Option.{Option, none}
+use mathlib.Core.Path.{_≡_, refl, ap}
+use mathlib.Core.Logic.{⊎-elim}
+use mathlib.Core.List.{List, [], _∷_, List·Memᴰ·cases-cons, List·Memᴰ·not-nil, Sublistᴰ·refl}
+use mathlib.Core.Option.{none}
 use borrow.Author.Tests.{eq-eqb}
 use lib.ListN.{length}
-use Rattle.policy.specs.Lists.{mem, after, common}
-use Rattle.policy.specs.Properties.{In, Distinct, Ordered, Full, After}
+use Rattle.policy.specs.Lists.{mem, after}
 use Rattle.policy.specs.AppendDelete.{planOne}
 use Rattle.policy.specs.InsertDeleteMove.{ownChoice, keptTwo, planTwo}
-use Rattle.policy.specs.Claims.{
-  Policy,
-  SafeDecidesAsOne,
-  NotFullKeepsTheDefault,
-  PlanOneVerdict,
-  PlanOneKeepsTheDefault,
-  Accepted,
-  PlanTwoVerdict,
-  PlanTwoChangesOnce,
-  NothingToDo,
-  PlansFit,
-}
+use Rattle.policy.specs.Judge.{verdict}
+use Rattle.policy.specs.Properties.{In, Distinct, After}
+use Rattle.policy.specs.Claims.{Policy, SafeDecidesAsOne, NotFullKeepsTheDefault, PlanOneVerdict, PlanOneKeepsTheDefault}
+use Rattle.policy.specs.Claims.{PlanTwoVerdict, PlanTwoChangesOnce, NothingToDo, PlansFit}
+use Rattle.policy.specs.declared.Command.{Command}
+use Rattle.policy.specs.declared.Verdict.the-variants.{Safe}
+use Rattle.policy.proofs.Tests.{or-left}
+use Rattle.policy.proofs.Lists.{length-nil}
+use Rattle.policy.proofs.Counting.{common-occurring}
+use Rattle.policy.proofs.Way.{Forward, Orderly, Sound, initial-sound, Steps, steps-leads}
 use Rattle.policy.proofs.Replay.{steps-after, after-distinct}
 use Rattle.policy.proofs.Decisions.{ordered-and-full-decides-as-one, ordered-keeps-the-default}
-use Rattle.policy.proofs.Judge.{verdict-safe, verdict-not-full, all-ordered-passes, all-sound-safe}
-use Rattle.policy.specs.declared.Command.{Command}
-use Rattle.policy.proofs.Tests.{or-left}
-use Rattle.policy.proofs.Way.{Sound, Forward}
-use Rattle.policy.proofs.Once.{after-none, steps-change-once}
-use Rattle.policy.proofs.AppendDelete.{
-  Orderly,
-  common-occurring,
-  plan-one-count,
-  plan-one-nothing,
-  plan-one-steps,
-  plan-one-reaches,
-}
-use Rattle.policy.proofs.InsertDeleteMove.{plan-two-steps, plan-two-reaches, plan-two-count}
+use Rattle.policy.proofs.Judge.{verdict-not-full, verdict-safe, all-ordered-passes}
+use Rattle.policy.proofs.Once.{steps-change-once}
+use Rattle.policy.proofs.AppendDelete.{kept-run-self, plan-one-count, plan-one-steps, plan-one-reaches}
+use Rattle.policy.proofs.InsertDeleteMove.{plan-two-steps, plan-two-count}
 
 pub safe-decides-as-one : SafeDecidesAsOne
 safe-decides-as-one size initial target script di dt safe m k l after =
@@ -71,22 +58,24 @@ plan-one-keeps-the-default size initial target first last m ei et k l after =
     ordered-keeps-the-default m initial target l (at .distinct) (at .ordered) ei et
 
 -- The lists of the script for insert, delete and move are ordered and full.
-plan-two-sound : (size : ℕ) (initial target : List ℕ) (keep : Option (List ℕ)) → Accepted size initial target keep
-    → (k : ℕ) (l : List ℕ) → After size initial (planTwo initial target keep) k l → Sound initial target l
-plan-two-sound size initial target keep a =
-    steps-after (Sound initial target) (Forward initial target) size initial target (planTwo initial target keep)
-    (plan-two-steps size initial target keep a)
+sound-safe : (size : ℕ) (initial target : List ℕ) (script : List Command) → Distinct initial → Distinct target
+    → Steps (Sound initial target) (Forward initial target) size initial script target → verdict size initial target script ≡ Safe
+sound-safe size initial target script di dt steps =
+    let sound = steps-after (Sound initial target) (Forward initial target) size initial target script steps in
+    verdict-safe size initial target script di dt .1 (
+      steps-leads (Sound initial target) (Forward initial target) size initial target script steps,
+      λ k l after. (sound k l after) .ordered,
+      λ k l after. (sound k l after) .full,
+    )
 
 pub plan-two-verdict : PlanTwoVerdict
 plan-two-verdict size initial target keep a =
-    all-sound-safe size initial target (planTwo initial target keep) (a .first .distinct) (a .last .distinct)
-    (plan-two-reaches size initial target keep a .1)
-    (λ k l after. (plan-two-sound size initial target keep a k l after) .ordered)
-    (λ k l after. (plan-two-sound size initial target keep a k l after) .full)
+    sound-safe size initial target (planTwo initial target keep) (a .first .distinct) (a .last .distinct)
+    (plan-two-steps size initial target keep a)
 
 pub plan-two-changes-once : PlanTwoChangesOnce
 plan-two-changes-once m size initial target keep a =
-    steps-change-once m size initial target (planTwo initial target keep) (plan-two-steps size initial target keep a)
+    steps-change-once m size initial target initial (planTwo initial target keep) (plan-two-steps size initial target keep a)
 
 -- "I = T": every rule is kept, and the count leaves no command.
 own-choice-self : (l : List ℕ) → ownChoice l l ≡ l
@@ -96,12 +85,9 @@ own-choice-self (x ∷ l) =
     let here = eq-eqb x x refl in
     rw (or-left (mem x l) here, ownChoice) (rw here (ap (λ (m : List ℕ). x ∷ m) (own-choice-self l)))
 
-common-self : (l : List ℕ) → Distinct l → common l l ≡ l
-common-self l d = common-occurring (Sublistᴰ·refl l) d
-
-no-command : (script : List Command) → length script ≡ 0 → script ≡ []
-no-command [] e = refl
-no-command (c ∷ script) e = absurd (omega arith)
+plan-one-nothing : (initial : List ℕ) → Distinct initial → planOne initial initial ≡ []
+plan-one-nothing initial d =
+    length-nil (planOne initial initial) (omega (arith, plan-one-count initial initial d, ap length (kept-run-self initial)))
 
 -- a catalogue that is large enough for a list
 room-for : (l : List ℕ) → (size : ℕ) × ((r : ℕ) → In r l → r < size)
@@ -118,21 +104,14 @@ plan-two-nothing initial d =
     let large = room-for initial in
     let policy : Policy (large .0) initial = record { inside = large .1; distinct = d } in
     let count = plan-two-count (large .0) initial initial none (record { first = policy; last = policy; keepable = tt }) in
-    no-command (planTwo initial initial none)
-    (omega (arith, count, ap length (common-self initial d), ap length (own-choice-self initial)))
-
-unmoved-sound : (size : ℕ) (initial : List ℕ) (k : ℕ) (l : List ℕ) → After size initial [] k l
-    → Ordered initial initial l × Full initial initial l
-unmoved-sound size initial k l after =
-    rw (sym (after-none size initial l k after))
-    (λ r h. inl (record { named = h; led = λ x p. p }), inl (λ r h. h))
+    length-nil (planTwo initial initial none)
+    (omega (arith, count, ap length (common-occurring (Sublistᴰ·refl initial) d), ap length (own-choice-self initial)))
 
 pub nothing-to-do : NothingToDo
 nothing-to-do size initial d = (
-  plan-one-nothing initial,
+  plan-one-nothing initial d,
   plan-two-nothing initial d,
-  all-sound-safe size initial initial [] d d refl
-      (λ k l after. unmoved-sound size initial k l after .0) (λ k l after. unmoved-sound size initial k l after .1),
+  sound-safe size initial initial [] d d (initial-sound initial initial d, refl),
 )
 
 -- "A planned script .. never exceeds 1,024 commands"

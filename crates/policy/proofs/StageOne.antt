@@ -5,89 +5,32 @@ use Prim.Native.Nat.{ℕ, suc, _+_}
 use native.Mathlib.Omega.{arith}
 use mathlib.Core.Path.{_≡_, refl, sym, _∙_, ap}
 use mathlib.Core.Bool.{not}
-use mathlib.Core.Logic.{_⊎_, inl, inr, ⊎-elim, _≢_}
-use mathlib.Core.List.{
-  List,
-  [],
-  _∷_,
-  _++_,
-  map,
-  map-append,
-  reverse,
-  reverseAux,
-  append-assoc,
-  append-nil,
-  List·Memᴰ,
-  List·Memᴰ·head,
-  List·Memᴰ·tail,
-  Memᴰ·cast,
-  Memᴰ·append-left,
-  Memᴰ·append-right,
-  Memᴰ·map,
-  Memᴰ·of-map,
-  List·Memᴰ·append-cases,
-  List·Memᴰ·cases-cons,
-  List·Memᴰ·eq-of-singleton,
-  List·Memᴰ·not-nil,
-  Sublistᴰ,
-}
+use mathlib.Core.Logic.{inl, inr, ⊎-elim, ⊎-map, _≢_}
+use mathlib.Core.List.{List, [], _∷_, _++_, map, reverse, map-append, append-nil, append-assoc}
+use mathlib.Core.List.{List·Memᴰ·head, List·Memᴰ·tail, Memᴰ·cast, Memᴰ·append-left, Memᴰ·append-right, Memᴰ·map, Memᴰ·of-map}
+use mathlib.Core.List.{List·Memᴰ·append-cases, List·Memᴰ·cases-cons, List·Memᴰ·eq-of-singleton, List·Memᴰ·not-nil}
+use mathlib.Core.List.{Sublistᴰ}
 use borrow.Author.Tests.{eqb-true, eqb-false}
 use lib.Dec.{eqb}
 use lib.ListN.{length, length-append, length-map}
 use lib.Seq.{append-snoc}
 use Rattle.policy.specs.Lists.{pick, mem, before, after, without, common, missing}
-use Rattle.policy.specs.InsertDeleteMove.{
-  Standing,
-  settled,
-  waiting,
-  ruleOf,
-  Halves,
-  Taken,
-  inserted,
-  reached,
-  moveUp,
-  already,
-  raised,
-  left,
-  takeOne,
-  stageOne,
-  firstStage,
-}
+use Rattle.policy.specs.InsertDeleteMove.{Standing, settled, waiting, ruleOf, Halves, Taken, inserted, reached, moveUp}
+use Rattle.policy.specs.InsertDeleteMove.{already, raised, left, takeOne, stageOne, firstStage}
 use Rattle.policy.specs.Properties.{In, Distinct, Within, Precedes, SupportedBy, Ordered}
 use Rattle.policy.specs.Claims.{Policy}
 use Rattle.policy.specs.declared.Command.the-variants.{Ins, Mov}
-use Rattle.policy.proofs.Tests.{byTest}
-use Rattle.policy.proofs.Lists.{mem-in, in-mem, not-mem, not-in, before-after}
-use Rattle.policy.proofs.Order.{
-  distinct-right,
-  distinct-apart,
-  in-middle,
-  precedes-in-left,
-  precedes-in-right,
-  precedes-right,
-  precedes-across,
-  precedes-cases,
-  precedes-asym,
-  sublist-in,
-  sublist-precedes,
-  pick-append,
-}
-use Rattle.policy.proofs.Standing.{
-  Follows,
-  follows-back,
-  precedes-after,
-  precedes-at,
-  precedes-to,
-  precedes-behind,
-  without-absent,
-  without-follows,
-  raised-in,
-  raised-back,
-  raised-distinct,
-  precedes-raised,
-}
-use Rattle.policy.proofs.Way.{Forward, Sound}
-use Rattle.policy.proofs.StageTwo.{Leg, leg-none, leg-one, leg-append, Settles, Waits, standing, Passing, waitingCount}
+use Rattle.policy.proofs.Tests.{byTest, not-first, not-second}
+use Rattle.policy.proofs.Lists.{mem-in, not-mem, reverse-in, in-middle, before-after}
+use Rattle.policy.proofs.Order.{distinct-right, distinct-apart, not-earlier, not-later, precedes-in-left}
+use Rattle.policy.proofs.Order.{precedes-in-right, precedes-right, precedes-across, precedes-cases, precedes-asym}
+use Rattle.policy.proofs.Order.{precedes-after, precedes-to, precedes-from, sublist-in, sublist-precedes}
+use Rattle.policy.proofs.Counting.{pick-append, one-of, none-of}
+use Rattle.policy.proofs.Standing.{Follows, follows-back, precedes-behind, without-absent, without-sublist, raised-in}
+use Rattle.policy.proofs.Standing.{raised-back, raised-distinct, precedes-raised}
+use Rattle.policy.proofs.Way.{Forward, Sound, initial-sound}
+use Rattle.policy.proofs.Stages.{Leg, leg-none, leg-one, leg-append, rules-join, standing-reverse, Settles, Waits, Passing}
+use Rattle.policy.proofs.Stages.{waitingCount, waiting-append, waiting-all}
 
 -- two policies that the reader accepts, and rules to keep that occur in order in both
 pub record Given (size : ℕ) (initial target kept : List ℕ) : Type 0 where
@@ -95,30 +38,6 @@ pub record Given (size : ℕ) (initial target kept : List ℕ) : Type 0 where
   pub new : Policy size target
   pub kept-initial : Sublistᴰ kept initial
   pub kept-target : Sublistᴰ kept target
-
--- The rules of a front.
-rules-waiting : (l : List ℕ) → map ruleOf (map waiting l) ≡ l
-unfolding ruleOf
-rules-waiting [] = refl
-rules-waiting (x ∷ l) = ap (λ (m : List ℕ). x ∷ m) (rules-waiting l)
-
-rules-join : (front : List Standing) (l : List ℕ) → map ruleOf (front ++ map waiting l) ≡ map ruleOf front ++ l
-rules-join front l = map-append ruleOf front (map waiting l) ∙ ap (λ (m : List ℕ). map ruleOf front ++ m) (rules-waiting l)
-
-standing-reverse : (front back : List Standing) → standing (reverseAux front back) ≡ standing back ++ map ruleOf front
-standing-reverse [] back = sym (append-nil (standing back))
-standing-reverse (x ∷ front) back =
-    standing-reverse front (x ∷ back) ∙ append-assoc (standing back) (ruleOf x ∷ []) (map ruleOf front)
-
-reverse-cases : (x : Standing) (front back : List Standing)
-    → List·Memᴰ x (reverseAux front back) → List·Memᴰ x front ⊎ List·Memᴰ x back
-reverse-cases x [] back h = inr h
-reverse-cases x (y ∷ front) back h =
-    ⊎-elim (λ k. inl (List·Memᴰ·tail k)) (λ k. ⊎-elim (λ e. inl (List·Memᴰ·head e)) (λ t. inr t) (List·Memᴰ·cases-cons k))
-    (reverse-cases x front (y ∷ back) h)
-
-reverse-in : (x : Standing) (front : List Standing) → List·Memᴰ x (reverse front) → List·Memᴰ x front
-reverse-in x front h = ⊎-elim (λ k. k) (λ k. absurd (List·Memᴰ·not-nil k)) (reverse-cases x front [] h)
 
 settled-waiting : (s w : ℕ) → settled s ≡ waiting w → ⊥
 settled-waiting s w e = let z : _≡_ {A = ℕ} 0 1 = cc in omega arith
@@ -174,25 +93,6 @@ Counted one leaves keeps was adds = (length (one .sent) + one .in-place) + (leav
 abbrev unsettled : Halves → ℕ
 unsettled h = waitingCount (h .front) + length (h .rest)
 
-one-of : (r : ℕ) (l : List ℕ) → In r l → (length (common (r ∷ []) l) ≡ 1) × (length (missing (r ∷ []) l) ≡ 0)
-unfolding common missing pick
-one-of r l h = rw (in-mem r l h) (refl, refl)
-
-none-of : (r : ℕ) (l : List ℕ) → ¬ In r l → (length (common (r ∷ []) l) ≡ 0) × (length (missing (r ∷ []) l) ≡ 1)
-unfolding common missing pick
-none-of r l n = rw (not-in r l n) (refl, refl)
-
-waiting-append : (u v : List Standing) → waitingCount (u ++ v) ≡ waitingCount u + waitingCount v
-unfolding waitingCount
-waiting-append [] v = omega arith
-waiting-append (settled r ∷ u) v = waiting-append u v
-waiting-append (waiting r ∷ u) v = omega (arith, waiting-append u v)
-
-waiting-all : (l : List ℕ) → waitingCount (map waiting l) ≡ length l
-unfolding waitingCount
-waiting-all [] = refl
-waiting-all (x ∷ l) = ap suc (waiting-all l)
-
 move-up-count : (n : ℕ) (between : List ℕ) → length (moveUp n between) + already between ≡ 1
 unfolding moveUp already
 move-up-count n [] = refl
@@ -203,8 +103,7 @@ module _ (size : ℕ) (initial target kept : List ℕ) (given : Given size initi
   later : (taken ts : List ℕ) (r x : ℕ) → target ≡ taken ++ (r ∷ ts) → In x target → ¬ In x taken → x ≢ r → Precedes r x target
   later taken ts r x taking h n other =
       rw taking (precedes-right r x taken (r ∷ ts)
-      (⊎-elim (λ k. absurd (n k)) (λ k. ⊎-elim (λ e. absurd (other e)) (λ t. inl (refl, t)) (List·Memᴰ·cases-cons k))
-      (List·Memᴰ·append-cases taken (rw taking at h))))
+      (inl (refl, not-first other (List·Memᴰ·cases-cons (not-first n (List·Memᴰ·append-cases taken (rw taking at h)))))))
 
   -- the first rules of the rest join the front, waiting
   join-waiting : (taken ts : List ℕ) (front : List Standing) (b a l : List ℕ)
@@ -222,8 +121,8 @@ module _ (size : ℕ) (initial target kept : List ℕ) (given : Given size initi
         joined = λ x h. rw (rules-join front b) (Memᴰ·append-left b (p .joined x h));
         pending = pending;
         settles = λ s h.
-            p .settles s (⊎-elim (λ k. k)
-            (λ k. let from = Memᴰ·of-map waiting b k in absurd (settled-waiting s (from .0) (sym (from .2))))
+            p .settles s (not-second
+            (λ k. let from = Memᴰ·of-map waiting b k in settled-waiting s (from .0) (sym (from .2)))
             (List·Memᴰ·append-cases front h));
         waits = λ w h.
             ⊎-elim (λ k. p .waits w k)
@@ -254,21 +153,21 @@ module _ (size : ℕ) (initial target kept : List ℕ) (given : Given size initi
             rw rules (⊎-elim (λ k. Memᴰ·append-left (r ∷ []) (p .joined x k)) (λ k. Memᴰ·append-right u k)
             (List·Memᴰ·append-cases taken h));
         pending = λ x h k.
-            ⊎-elim (λ e. absurd (distinct-right taken (r ∷ ts) apart .0 (Memᴰ·cast (sym e) h))) (λ t. t)
+            not-first (λ e. not-later r taken ts apart (Memᴰ·cast (sym e) h))
             (List·Memᴰ·cases-cons (p .pending x (List·Memᴰ·tail h) k));
         settles = λ s h.
             ⊎-elim (λ k. (Memᴰ·append-left (r ∷ []) (p .settles s k .0), p .settles s k .1))
             (λ k. let e : s ≡ r = cc (List·Memᴰ·eq-of-singleton k) in (
               Memᴰ·append-right taken (List·Memᴰ·head e),
               λ x q g.
-                  let behind = precedes-at r x u rest was (rw (e, at) at q) in
+                  let behind = precedes-from r x u rest was (rw (e, at) at q) in
                   rw e (later taken ts r x (p .taking) g
                   (λ i. distinct-apart u (r ∷ rest) was x (p .joined x i) (List·Memᴰ·tail behind))
-                  (λ i. distinct-right u (r ∷ rest) was .0 (Memᴰ·cast (sym i) behind))),
+                  (λ i. not-later r u rest was (Memᴰ·cast (sym i) behind))),
             ))
             (List·Memᴰ·append-cases front h);
         waits = λ w h.
-            p .waits w (⊎-elim (λ k. k) (λ k. absurd (settled-waiting r w (sym (List·Memᴰ·eq-of-singleton k))))
+            p .waits w (not-second (λ k. settled-waiting r w (sym (List·Memᴰ·eq-of-singleton k)))
             (List·Memᴰ·append-cases front h));
       }
 
@@ -303,7 +202,7 @@ module _ (size : ℕ) (initial target kept : List ℕ) (given : Given size initi
             byTest (eqb x r)
             (λ t. inr (rw (eqb-true x r t) own))
             (λ f. let other = eqb-false x r f in
-            ⊎-elim (λ s. inl (stays initial x other s)) (λ s. inr (stays target x other s))
+            ⊎-map (stays initial x other) (stays target x other)
             (p .ordered x (rw at (raised-back r x u rest other h))));
         whole = λ x h. raised-in r x u rest (rw at at (p .whole x h));
         joined = p .joined;
@@ -340,18 +239,16 @@ module _ (size : ℕ) (initial target kept : List ℕ) (given : Given size initi
               byTest (eqb a r)
               (λ t. let e = eqb-true a r t in
               rw e (
-              ⊎-elim (λ q. absurd (n (precedes-in-right b r u q)))
-              (
               ⊎-elim (λ q. precedes-across b r u (r ∷ without r rest) (q .0) (List·Memᴰ·head refl))
               (λ q. let early = trails b r q in
               absurd (precedes-asym b r initial (given .old .distinct) early
               (rw e at (rivals .initially (precedes-in-left b r initial early)))))
-              )
-              (precedes-cases b r u rest (rw e at was))))
+              (not-first (λ q. n (precedes-in-right b r u q)) (precedes-cases b r u rest (rw e at was)))))
               (λ f. precedes-raised b a r u rest (eqb-false a r f) was),
         );
       }
 
+  -- so the next rule of the target joins the front, settled, wherever it comes from
   halfway-raised : (taken ts : List ℕ) (r : ℕ) (front : List Standing) (rest l : List ℕ)
       → ¬ In r (map ruleOf front)
       → Halfway initial target kept taken (r ∷ ts) front rest l
@@ -364,10 +261,10 @@ module _ (size : ℕ) (initial target kept : List ℕ) (given : Given size initi
         split =
             join-settled taken ts r front (without r rest) (u ++ (r ∷ without r rest))
             (raise taken ts r front rest l n (p .split));
-        trails = λ a b q. p .trails a b (without-follows r rest a b q);
+        trails = λ a b q. p .trails a b (sublist-precedes a b (without-sublist r rest) q);
         fresh = λ x h k.
             p .fresh x (List·Memᴰ·tail h)
-            (rw (p .split .is) (raised-back r x u rest (λ e. distinct-right taken (r ∷ ts) apart .0 (Memᴰ·cast (sym e) h)) k));
+            (rw (p .split .is) (raised-back r x u rest (λ e. not-later r taken ts apart (Memᴰ·cast (sym e) h)) k));
       }
 
   -- what is to be shown of one rule of the target
@@ -472,7 +369,7 @@ module _ (size : ℕ) (initial target kept : List ℕ) (given : Given size initi
         rw at (precedes-right w r u (b ++ (r ∷ a)) (precedes-across w r b (r ∷ a) i (List·Memᴰ·head refl))),
         later taken ts r w (p .split .taking) j
             (λ t. distinct-apart u (b ++ (r ∷ a)) was w (p .split .joined w t) (Memᴰ·append-left (r ∷ a) i))
-            (λ e. distinct-apart b (r ∷ a) (distinct-right u (b ++ (r ∷ a)) was) w i (List·Memᴰ·head e)),
+            (λ e. not-earlier r b a (distinct-right u (b ++ (r ∷ a)) was) (Memᴰ·cast (sym e) i)),
       ) in
       let joined = join-waiting taken (r ∷ ts) (h .front) b (r ∷ a) l (rw shape at (p .split)) pending reasons in (
         l,
@@ -494,7 +391,7 @@ module _ (size : ℕ) (initial target kept : List ℕ) (given : Given size initi
   pass taken ts r h l p old n =
       let u = map ruleOf (h .front) in
       let here : In r u =
-      ⊎-elim (λ k. k) (λ k. absurd (n k)) (List·Memᴰ·append-cases u (rw (p .split .is) at (p .split .whole r old))) in (
+      not-second n (List·Memᴰ·append-cases u (rw (p .split .is) at (p .split .whole r old))) in (
         l,
         leg-none (split-sound (p .split)) refl,
         record {
@@ -622,7 +519,7 @@ module _ (size : ℕ) (initial target kept : List ℕ) (given : Given size initi
               taking = refl;
               is = refl;
               distinct = given .old .distinct;
-              ordered = λ x h. inl (record { named = h; led = λ y q. q });
+              ordered = initial-sound initial target (given .old .distinct) .ordered;
               whole = λ x h. h;
               joined = λ x h. absurd (List·Memᴰ·not-nil h);
               pending = λ x h k. sublist-in (given .kept-initial) x k;

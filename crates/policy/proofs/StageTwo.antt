@@ -1,128 +1,33 @@
 -- The second stage of the script for insert, delete and move. The running list is what is left of the front, then `done`; a rule
 -- leaves the end of the front and goes into `done`, which follows the target's order. So rules of the front keep their support,
 -- and rules of `done` have the target's. Assumes nothing.
-use Prim.Native.Nat.{ℕ, suc, _+_, _<_, _-_}
+use Prim.Native.Nat.{ℕ, suc, _+_, _<_}
 use native.Mathlib.Omega.{arith}
-use mathlib.Core.Path.{_≡_, refl, sym, _∙_, ap, subst}
-use mathlib.Core.Logic.{inl, inr, ⊎-elim, _≢_}
-use mathlib.Core.List.{
-  List,
-  [],
-  _∷_,
-  _++_,
-  append-assoc,
-  List·Memᴰ,
-  List·Memᴰ·head,
-  List·Memᴰ·tail,
-  Memᴰ·cast,
-  Memᴰ·append-left,
-  Memᴰ·append-right,
-  List·Memᴰ·append-cases,
-  List·Memᴰ·cases-cons,
-  List·Memᴰ·not-nil,
-}
+use mathlib.Core.Path.{_≡_, refl, sym, _∙_, ap}
+use mathlib.Core.Logic.{inl, inr, ⊎-elim, ⊎-map}
+use mathlib.Core.List.{List, [], _∷_, _++_, append-assoc}
+use mathlib.Core.List.{List·Memᴰ·head, List·Memᴰ·tail, Memᴰ·cast, Memᴰ·append-left, Memᴰ·append-right, List·Memᴰ·append-cases}
+use mathlib.Core.List.{List·Memᴰ·cases-cons, List·Memᴰ·not-nil}
 use borrow.Author.Tests.{eqb-true, eqb-false}
 use lib.Dec.{eqb}
 use lib.ListN.{length, length-append}
-use lib.Seq.{take-at, drop-at}
+use lib.Seq.{append-snoc}
 use Rattle.policy.specs.Lists.{mem, after}
 use Rattle.policy.specs.Command.{placed}
 use Rattle.policy.specs.InsertDeleteMove.{Standing, settled, waiting, ruleOf, ahead, stageTwo}
-use Rattle.policy.specs.Properties.{In, Distinct, Within, Precedes, SupportedBy, Ordered, Makes}
-use Rattle.policy.specs.declared.Command.{Command}
-use Rattle.policy.specs.declared.Command.the-variants.{App, DelRule, Ins, DelPlace, Mov}
-use Rattle.policy.proofs.Tests.{byTest}
-use Rattle.policy.proofs.Lists.{mem-in, not-mem}
-use Rattle.policy.proofs.Order.{
-  distinct-around,
-  around-distinct,
-  in-around,
-  in-middle,
-  around-cases,
-  precedes-in-left,
-  precedes-left,
-  precedes-right,
-  precedes-across,
-  precedes-total,
-  precedes-asym,
-  around-precedes,
-}
-use Rattle.policy.proofs.Standing.{
-  Follows,
-  precedes-trans,
-  follows-back,
-  follows-around,
-  same-order,
-  after-precedes,
-  precedes-after,
-  precedes-at,
-  precedes-front,
-  precedes-behind,
-  precedes-lowered,
-}
-use Rattle.policy.proofs.Way.{Forward, Sound, Steps, steps-append}
-
--- a command of type 2 that changes the list
-abbrev pub Fit : Command → Type 0
-Fit (App r) = ⊥
-Fit (DelRule r) = ⊥
-Fit (Ins i r) = Unit {0}
-Fit (DelPlace i) = Unit {0}
-Fit (Mov i j) = i ≢ j
-
--- a part of the script, from one list to another
-pub record Leg (size : ℕ) (initial target l : List ℕ) (script : List Command) (m : List ℕ) : Type 0 where
-  pub steps : Steps (Sound initial target) (Forward initial target) size l script m
-  pub fit : (c : Command) → List·Memᴰ c script → Fit c
-
-pub leg-none : {size : ℕ} {initial target l m : List ℕ} → Sound initial target l → l ≡ m → Leg size initial target l [] m
-leg-none s e = record { steps = (s, e); fit = λ c h. absurd (List·Memᴰ·not-nil h) }
-
-pub leg-one : {size : ℕ} {initial target l : List ℕ} (c : Command) {m : List ℕ} → Sound initial target l → Sound initial target m
-    → Makes size l c m → Forward initial target l m → Fit c → Leg size initial target l (c ∷ []) m
-leg-one c {m} s t makes forward fit =
-    record {
-      steps = (s, (m, makes, forward, (t, refl)));
-      fit = λ x h. ⊎-elim (λ e. subst Fit (sym e) fit) (λ k. absurd (List·Memᴰ·not-nil k)) (List·Memᴰ·cases-cons h);
-    }
-
-pub leg-append : {size : ℕ} {initial target l m n : List ℕ} {first second : List Command}
-    → Leg size initial target l first m → Leg size initial target m second n → Leg size initial target l (first ++ second) n
-leg-append {size} {initial} {target} {l} {m} {n} {first} {second} s t =
-    record {
-      steps = steps-append (Sound initial target) (Forward initial target) size l m n first second (s .steps) (t .steps);
-      fit = λ c h. ⊎-elim (λ k. s .fit c k) (λ k. t .fit c k) (List·Memᴰ·append-cases first h);
-    }
-
--- every settled rule is in the first list, and precedes in the target each rule of the target that stands after it
-abbrev pub Settles : List ℕ → List ℕ → List Standing → List ℕ → Type 0
-Settles taken target front l =
-    (s : ℕ) → List·Memᴰ (settled s) front → In s taken × ((x : ℕ) → Precedes s x l → In x target → Precedes s x target)
-
--- every waiting rule of the target has a rule after it that precedes it in the target
-abbrev pub Waits : List ℕ → List Standing → List ℕ → Type 0
-Waits target front l =
-    (r : ℕ) → List·Memᴰ (waiting r) front → In r target → (s : ℕ) × Precedes r s l × Precedes s r target
-
--- the rules of a front that is given last place first, in their order
-abbrev pub standing : List Standing → List ℕ
-standing [] = []
-standing (x ∷ left) = standing left ++ (ruleOf x ∷ [])
-
-standing-in : (x : Standing) (left : List Standing) → List·Memᴰ x left → In (ruleOf x) (standing left)
-standing-in x [] h = absurd (List·Memᴰ·not-nil h)
-standing-in x (y ∷ left) h =
-    ⊎-elim (λ e. Memᴰ·append-right (standing left) (List·Memᴰ·head (ap ruleOf e)))
-    (λ k. Memᴰ·append-left (ruleOf y ∷ []) (standing-in x left k))
-    (List·Memᴰ·cases-cons h)
-
-standing-length : (left : List Standing) → length (standing left) ≡ length left
-standing-length [] = refl
-standing-length (x ∷ left) = omega (arith, standing-length left, length-append (standing left) (ruleOf x ∷ []))
-
-in-some : (r : ℕ) (l : List ℕ) → In r l → 0 < length l
-in-some r [] h = absurd (List·Memᴰ·not-nil h)
-in-some r (x ∷ l) h = omega arith
+use Rattle.policy.specs.Properties.{In, Distinct, Within, Precedes, SupportedBy}
+use Rattle.policy.specs.declared.Command.the-variants.{DelPlace, Mov}
+use Rattle.policy.proofs.Tests.{byTest, not-first, not-second}
+use Rattle.policy.proofs.Lists.{mem-in, not-mem, in-some, in-around, around-cases}
+use Rattle.policy.proofs.Order.{not-later, distinct-around, precedes-in-left, precedes-left, precedes-right}
+use Rattle.policy.proofs.Order.{precedes-across, precedes-asym, precedes-trans, precedes-total, around-precedes}
+use Rattle.policy.proofs.Order.{after-precedes, precedes-after, precedes-from}
+use Rattle.policy.proofs.Standing.{Follows, follows-back, follows-around, same-order, precedes-front, precedes-behind}
+use Rattle.policy.proofs.Standing.{lowered-in, lowered-back, lowered-distinct, precedes-lowered}
+use Rattle.policy.proofs.Way.{Forward, Sound}
+use Rattle.policy.proofs.Commands.{placed-at}
+use Rattle.policy.proofs.Stages.{Leg, leg-none, leg-one, leg-append, standing, standing-in, standing-length, Passing}
+use Rattle.policy.proofs.Stages.{waitingCount}
 
 -- `done`, cut where a rule of the target goes into it: behind the rules that do not come after that one in the target
 record Cut (target : List ℕ) (r : ℕ) (done : List ℕ) : Type 0 where
@@ -169,24 +74,6 @@ cut target r (y ∷ done) d f =
       late = below .late;
     })
 
--- a rule put in at a place
-placed-at : (r i : ℕ) (u v : List ℕ) → i ≡ suc (length u) → placed i r (u ++ v) ≡ u ++ (r ∷ v)
-unfolding placed
-placed-at r i u v e =
-    let counted : length u ≡ i - 1 = omega arith in
-    rw (take-at u v (i - 1) counted, drop-at u v (i - 1) counted)
-
--- the list in the second stage: the front that is left, last place first, and `done`
-pub record Passing (initial target : List ℕ) (left : List Standing) (done l : List ℕ) : Type 0 where
-  pub is : l ≡ standing left ++ done
-  pub distinct : Distinct l
-  pub ordered : Ordered initial target l
-  pub whole : Within target l
-  pub inside : Within done target
-  pub follows : Follows done target
-  pub settles : Settles target target left l
-  pub waits : Waits target left l
-
 passing-sound : {initial target : List ℕ} {left : List Standing} {done l : List ℕ}
     → Passing initial target left done l → Sound initial target l
 passing-sound p = record { distinct = p .distinct; ordered = p .ordered; full = inr (p .whole) }
@@ -194,7 +81,7 @@ passing-sound p = record { distinct = p .distinct; ordered = p .ordered; full = 
 module _ (size : ℕ) (initial target : List ℕ) (d : Distinct target) where
   opened : (x : Standing) (left : List Standing) (done l : List ℕ)
       → Passing initial target (x ∷ left) done l → l ≡ standing left ++ (ruleOf x ∷ done)
-  opened x left done l p = p .is ∙ append-assoc (standing left) (ruleOf x ∷ []) done
+  opened x left done l p = p .is ∙ append-snoc (standing left) (ruleOf x) done
 
   -- a settled rule at the end of the front becomes the first of `done`: the list stays as it is
   pass-settled : (r : ℕ) (left : List Standing) (done l : List ℕ)
@@ -240,7 +127,7 @@ module _ (size : ℕ) (initial target : List ℕ) (d : Distinct target) where
         distinct = distinct;
         ordered = λ x h.
             ⊎-elim
-            (λ k. ⊎-elim (λ s. inl (kept initial x k s)) (λ s. inr (kept target x k s))
+            (λ k. ⊎-map (kept initial x k) (kept target x k)
             (p .ordered x (rw at (Memᴰ·append-left (r ∷ done) k))))
             (λ k. inr (record {
               named = inside x k;
@@ -273,7 +160,7 @@ module _ (size : ℕ) (initial target : List ℕ) (d : Distinct target) where
       → Forward initial target (u ++ (r ∷ v)) (u ++ v)
   deleted-forward r u v n distinct =
       let stays : (x : ℕ) → In x target → In x (u ++ (r ∷ v)) → In x (u ++ v) =
-      λ x h k. ⊎-elim (λ e. absurd (n (Memᴰ·cast (sym e) h))) (λ t. t) (around-cases r x u v k) in
+      λ x h k. not-first (λ e. n (Memᴰ·cast (sym e) h)) (around-cases r x u v k) in
       record {
         stays = λ x h old k. stays x h k;
         gone = λ x h new k. in-around r x u v k;
@@ -288,27 +175,19 @@ module _ (size : ℕ) (initial target : List ℕ) (d : Distinct target) where
   lowered-forward : (r : ℕ) (u x y : List ℕ) → Distinct (u ++ (r ∷ (x ++ y))) → ((z : ℕ) → In z x → Precedes z r target)
       → Forward initial target (u ++ (r ∷ (x ++ y))) (u ++ (x ++ (r ∷ y)))
   lowered-forward r u x y distinct over =
-      let there : Within (u ++ (r ∷ (x ++ y))) (u ++ (x ++ (r ∷ y))) =
-      λ z h. ⊎-elim (λ k. Memᴰ·append-left (x ++ (r ∷ y)) k)
-      (λ k. Memᴰ·append-right u (⊎-elim (λ e. Memᴰ·cast e (in-middle r x y)) (λ t. in-around r z x y t) (List·Memᴰ·cases-cons k)))
-      (List·Memᴰ·append-cases u h) in
-      let back : Within (u ++ (x ++ (r ∷ y))) (u ++ (r ∷ (x ++ y))) =
-      λ z h. ⊎-elim (λ k. Memᴰ·append-left (r ∷ (x ++ y)) k)
-      (λ k. Memᴰ·append-right u (⊎-elim (λ e. List·Memᴰ·head e) (λ t. List·Memᴰ·tail t) (around-cases r z x y k)))
-      (List·Memᴰ·append-cases u h) in
       record {
-        stays = λ z h old k. there z k;
-        gone = λ z h new k. back z k;
+        stays = λ z h old k. lowered-in r z u x y k;
+        gone = λ z h new k. lowered-back r z u x y k;
         led = λ a b rivals lead. (
-          there b (lead .0),
-          λ h. let was = lead .1 (back a h) in
+          lowered-in r b u x y (lead .0),
+          λ h. let was = lead .1 (lowered-back r a u x y h) in
               byTest (eqb b r)
               (λ t. let e = eqb-true b r t in
               ⊎-elim
               (λ k. let before = over a k in
               absurd (precedes-asym a r target d before (rw e at (rivals .finally (precedes-in-left a r target before)))))
               (λ k. rw e (precedes-right r a u (x ++ (r ∷ y)) (precedes-right r a x (r ∷ y) (inl (refl, k)))))
-              (List·Memᴰ·append-cases x (precedes-at r a u (x ++ y) distinct (rw e at was))))
+              (List·Memᴰ·append-cases x (precedes-from r a u (x ++ y) distinct (rw e at was))))
               (λ f. precedes-lowered b a r u x y (λ e. eqb-false b r f e) was),
         );
       }
@@ -324,7 +203,7 @@ module _ (size : ℕ) (initial target : List ℕ) (d : Distinct target) where
       let was : Distinct (u ++ (r ∷ done)) = rw at at (p .distinct) in
       let now : Passing initial target left done (u ++ done) =
       pass-waiting r left done done l p (distinct-around r u done was .1) (λ x h. List·Memᴰ·tail h)
-      (λ x h k. ⊎-elim (λ e. absurd (n (Memᴰ·cast (sym e) h))) (λ t. t) (List·Memᴰ·cases-cons k)) (p .inside) (p .follows) in (
+      (λ x h k. not-first (λ e. n (Memᴰ·cast (sym e) h)) (List·Memᴰ·cases-cons k)) (p .inside) (p .follows) in (
         now,
         leg-one (DelPlace (suc (length left))) (passing-sound p) (passing-sound now)
             (u, r, done, ap suc (sym (standing-length left)), at, refl)
@@ -344,28 +223,26 @@ module _ (size : ℕ) (initial target : List ℕ) (d : Distinct target) where
       let x = c .first in
       let y = c .second in
       let k = ahead target r done in
-      let shape : now ≡ x ++ (r ∷ y) = is ∙ ap (placed (suc k) r) (c .is) ∙ placed-at r (suc k) x y (ap suc (c .counted)) in
+      let shape : now ≡ x ++ (r ∷ y) = is ∙ placed-at r x y (ap suc (c .counted)) (c .is) in
       let at : l ≡ u ++ (r ∷ (x ++ y)) = opened (waiting r) left done l p ∙ ap (λ (m : List ℕ). u ++ (r ∷ m)) (c .is) in
       let was : Distinct (u ++ (r ∷ (x ++ y))) = rw at at (p .distinct) in
-      let apart = distinct-around r u (x ++ y) was in
       let inside : Within (x ++ y) target = λ z k. p .inside z (rw (c .is) k) in
       let over : (z : ℕ) → In z x → Precedes z r target =
-      λ z k. ⊎-elim (λ q. q) (λ q. absurd (c .early z k q))
+      λ z k. not-second (c .early z k)
       (precedes-total z r target (inside z (Memᴰ·append-left y k)) h
-      (λ e. apart .0 (Memᴰ·append-right u (Memᴰ·append-left y (Memᴰ·cast (sym e) k))))) in
+      (λ e. not-later r u (x ++ y) was (Memᴰ·append-left y (Memᴰ·cast (sym e) k)))) in
       let then : Passing initial target left now (u ++ now) =
       rw shape (
       pass-waiting r left done (x ++ (r ∷ y)) l p
-      (rw (append-assoc u x (r ∷ y)) at (around-distinct r (u ++ x) y (rw append-assoc (apart .0)) (rw append-assoc (apart .1))))
-      (λ z k. ⊎-elim (λ e. List·Memᴰ·head e) (λ i. List·Memᴰ·tail (rw (c .is) i)) (around-cases r z x y k))
-      (λ z g k. ⊎-elim (λ e. Memᴰ·cast e (in-middle r x y)) (λ i. in-around r z x y (rw (c .is) at i)) (List·Memᴰ·cases-cons k))
+      (lowered-distinct r u x y was)
+      (λ z k. rw (c .is) (lowered-back r z [] x y k)) (λ z g k. lowered-in r z [] x y (rw (c .is) at k))
       (λ z k. ⊎-elim (λ e. Memᴰ·cast e h) (λ i. inside z i) (around-cases r z x y k))
       (follows-around r x y target over (c .late) (rw (c .is) at (p .follows)))) in
       let reason = p .waits r (List·Memᴰ·head refl) h in
       let some : 0 < length x =
-      ⊎-elim (λ i. in-some (reason .0) x i)
-      (λ i. absurd (precedes-asym r (reason .0) target d (c .late (reason .0) i) (reason .2)))
-      (List·Memᴰ·append-cases x (precedes-at r (reason .0) u (x ++ y) was (rw at at (reason .1)))) in (
+      in-some (reason .0) x
+      (not-second (λ i. precedes-asym r (reason .0) target d (c .late (reason .0) i) (reason .2))
+      (List·Memᴰ·append-cases x (precedes-from r (reason .0) u (x ++ y) was (rw at at (reason .1))))) in (
         then,
         leg-one (Mov (suc (length left)) (suc (length left) + k)) (passing-sound p) (passing-sound then) (
           u,
@@ -399,13 +276,7 @@ module _ (size : ℕ) (initial target : List ℕ) (d : Distinct target) where
       (λ f. let gone = delete r left done l (not-mem r target f) p in
       rw (f, stageTwo) (leg-append (gone .1) (stage-two left done (standing left ++ done) (gone .0))))
 
--- how many rules of the front wait
-unfoldable pub waitingCount : List Standing → ℕ
-waitingCount [] = 0
-waitingCount (settled r ∷ front) = waitingCount front
-waitingCount (waiting r ∷ front) = suc (waitingCount front)
-
--- the second stage sends one command for each of them
+-- The second stage sends one command for each rule that waits.
 pub stage-two-count : (target : List ℕ) (left : List Standing) (done : List ℕ)
     → length (stageTwo target left done) ≡ waitingCount left
 unfolding stageTwo waitingCount

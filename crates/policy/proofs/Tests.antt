@@ -1,4 +1,5 @@
--- Tests and what they say: case splits on a Bool, and the two connectives taken apart. Assumes nothing.
+-- Tests and what they say: a case split on a Bool, the connectives taken apart, and a choice of which one side is absurd.
+-- Assumes nothing.
 use mathlib.Core.Path.{_≡_, refl, sym, _∙_}
 use mathlib.Core.Bool.{Bool, true, false, not, _&&_, _||_, true≢false}
 use mathlib.Core.Logic.{_⊎_, inl, inr}
@@ -29,16 +30,32 @@ pub or-right : (a : Bool) {b : Bool} → b ≡ true → (a || b) ≡ true
 or-right true e = refl
 or-right false e = e
 
+pub either-or : {a b : Bool} → (a ≡ true) ⊎ (b ≡ true) → (a || b) ≡ true
+either-or {a} {b} (inl e) = or-left b e
+either-or {a} {b} (inr e) = or-right a e
+
 pub or-neither : (a b : Bool) → (a || b) ≡ false → (a ≡ false) × (b ≡ false)
 or-neither true b e = never refl e
 or-neither false b e = (refl, e)
 
+-- a test is false where its being true is absurd, and the other way round
+pub falsely : {b : Bool} → (b ≡ true → ⊥) → b ≡ false
+falsely {b} h = byTest b (λ t. absurd (h t)) (λ f. f)
+
+pub truly : {b : Bool} → (b ≡ false → ⊥) → b ≡ true
+truly {b} h = byTest b (λ t. t) (λ f. absurd (h f))
+
 pub not-true : {b : Bool} → not b ≡ true → b ≡ false
-not-true {b} e = byTest b (λ t. never e (rw t)) (λ f. f)
+not-true e = falsely (λ t. never e (rw t))
 
 pub false-not : {b : Bool} → b ≡ false → not b ≡ true
 false-not {b} e = rw e
 
--- a test that is false where its being true is absurd, and the other way round
-pub falsely : {b : Bool} → (b ≡ true → ⊥) → b ≡ false
-falsely {b} h = byTest b (λ t. absurd (h t)) (λ f. f)
+-- a choice of two, of which the first is absurd, or the second
+pub not-first {ℓ κ} : {A : Type ℓ} {B : Type κ} → (A → ⊥) → A ⊎ B → B
+not-first n (inl a) = absurd (n a)
+not-first n (inr b) = b
+
+pub not-second {ℓ κ} : {A : Type ℓ} {B : Type κ} → (B → ⊥) → A ⊎ B → A
+not-second n (inl a) = a
+not-second n (inr b) = absurd (n b)

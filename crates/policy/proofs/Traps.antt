@@ -1,36 +1,28 @@
--- The traps of document 01 hold of the definitions. The finite ones are computed. That counting j early is wrong: the rule lands one place
--- too high, where a list of differing rules has another rule. Assumes nothing.
-use Prim.Native.Nat.{ℕ, zero, suc, _+_, _-_, _≤_, _<_}
+-- The traps of document 01 hold of the definitions. The finite ones are computed. That counting j early is wrong: the rule lands
+-- one place too high, where a list of differing rules has another rule. Assumes nothing.
+use Prim.Native.Nat.{ℕ, zero, suc, _<_}
+use native.Mathlib.Nat.{le-of-suc-le-suc, not-suc-le-zero}
+use native.Mathlib.Numerals.{sub-one}
 use native.Mathlib.Omega.{arith}
 use mathlib.Core.Path.{_≡_, refl, sym, _∙_, ap}
-use mathlib.Core.Bool.{Bool, true, false, cond}
+use mathlib.Core.Bool.{true}
 use mathlib.Core.Logic.{_⊎_, inl, inr, ⊎-elim, _≢_}
-use mathlib.Core.List.{List, [], _∷_, _++_, List·Memᴰ, List·Memᴰ·head, List·Memᴰ·tail, List·Memᴰ·cases-cons, List·Memᴰ·not-nil, List·Memᴰ·eq-of-singleton, Memᴰ·cast}
+use mathlib.Core.List.{List, [], _∷_, _++_}
+use mathlib.Core.List.{List·Memᴰ·head, List·Memᴰ·tail, Memᴰ·cast, List·Memᴰ·cases-cons, List·Memᴰ·eq-of-singleton}
+use mathlib.Core.List.{List·Memᴰ·not-nil}
 use borrow.Author.Tests.{lt-ltb}
-use native.Mathlib.Nat.{le-of-suc-le-suc, not-suc-le-zero}
-use lib.ListN.{length, take, drop, getD, List·getD-append, length-append, length-drop, length-take}
-use lib.Seq.{getD-at, getD-take, length-take-le, split-at}
 use lib.Dec.{ltb}
-use Rattle.policy.specs.Policy.{decide, decideFrom, decided}
-use Rattle.policy.specs.Command.{step, needs, within, ruleAt, lifted, placed, moved}
-use Rattle.policy.specs.Replay.{replay, replayFrom, lists}
+use lib.ListN.{length, take, drop, getD, List·getD-append, length-append, length-drop}
+use lib.Seq.{getD-at, getD-take, length-take-le, split-at}
 use Rattle.policy.specs.Lists.{mem}
-use Rattle.policy.specs.Properties.{In, Distinct, Precedes}
+use Rattle.policy.specs.Policy.{decideFrom, decide, decided}
+use Rattle.policy.specs.Command.{ruleAt, lifted, placed, moved, needs, within, step}
+use Rattle.policy.specs.Replay.{replayFrom, replay, lists}
+use Rattle.policy.specs.Properties.{In, Precedes}
+use Rattle.policy.specs.Traps.{KeepsCommon, KeepsPairs, hitting, permits, CommonAndPairsAreNotEnough, denies-but-one}
+use Rattle.policy.specs.Traps.{PairsLeaveHoles, movedEarly, CountingEarlyIsWrong, EndsAreNotEnough}
+use Rattle.policy.proofs.Lists.{place-in}
 use Rattle.policy.proofs.Order.{distinct-around}
-use Rattle.policy.specs.Traps.{
-  KeepsCommon,
-  KeepsPairs,
-  hitting,
-  permits,
-  sixth,
-  CommonAndPairsAreNotEnough,
-  denies-but-one,
-  PairsLeaveHoles,
-  movedEarly,
-  CountingEarlyIsWrong,
-  out-and-in,
-  EndsAreNotEnough,
-}
 
 -- a rule precedes itself in no policy of a pair that the condition speaks of
 no-pair : (initial target l : List ℕ) (a b : ℕ) → a ≡ b → Precedes a b initial ⊎ Precedes a b target
@@ -42,7 +34,8 @@ single-pairs initial target x a b p n k h g =
     no-pair initial target (x ∷ []) a b (List·Memᴰ·eq-of-singleton h ∙ sym (List·Memᴰ·eq-of-singleton g)) p n k
 
 -- one of the two policies, or nothing, where the policies have one rule each
-single-common : (x y : ℕ) (l : List ℕ) → x ≢ y → ((r : ℕ) → In r l → In r (x ∷ []) ⊎ In r (y ∷ [])) → KeepsCommon (x ∷ []) (y ∷ []) l
+single-common : (x y : ℕ) (l : List ℕ) → x ≢ y → ((r : ℕ) → In r l → In r (x ∷ []) ⊎ In r (y ∷ []))
+    → KeepsCommon (x ∷ []) (y ∷ []) l
 single-common x y l n w =
     (w, λ r h k. absurd (n (sym (List·Memᴰ·eq-of-singleton h) ∙ List·Memᴰ·eq-of-singleton k)))
 
@@ -53,8 +46,12 @@ common-and-pairs-are-not-enough =
       λ l h. elim (List·Memᴰ·cases-cons h) [
         | inl e ↦ rw e (single-common 0 1 (0 ∷ []) unlike (λ r k. inl k), single-pairs (0 ∷ []) (1 ∷ []) 0)
         | inr t ↦ elim (List·Memᴰ·cases-cons t) [
-          | inl e ↦ rw e (single-common 0 1 [] unlike (λ r k. absurd (List·Memᴰ·not-nil k)), λ a b p n k g. absurd (List·Memᴰ·not-nil g))
-          | inr u ↦ rw (List·Memᴰ·eq-of-singleton u) (single-common 0 1 (1 ∷ []) unlike (λ r k. inr k), single-pairs (0 ∷ []) (1 ∷ []) 1)
+          | inl e ↦ rw e (
+            single-common 0 1 [] unlike (λ r k. absurd (List·Memᴰ·not-nil k)),
+            λ a b p n k g. absurd (List·Memᴰ·not-nil g),
+          )
+          | inr u ↦ rw (List·Memᴰ·eq-of-singleton u)
+              (single-common 0 1 (1 ∷ []) unlike (λ r k. inr k), single-pairs (0 ∷ []) (1 ∷ []) 1)
         ]
       ],
       List·Memᴰ·tail (List·Memᴰ·head refl),
@@ -67,19 +64,16 @@ pub pairs-leave-holes : PairsLeaveHoles
 unfolding decided decide decideFrom hitting denies-but-one
 pairs-leave-holes = (single-pairs (0 ∷ 1 ∷ []) (2 ∷ 1 ∷ []) 1, refl, refl, refl)
 
-getD-in : (l : List ℕ) (k : ℕ) → k < length l → In (getD l k 0) l
-getD-in [] k h = absurd (not-suc-le-zero h)
-getD-in (x ∷ l) zero h = List·Memᴰ·head refl
-getD-in (x ∷ l) (suc k) h = List·Memᴰ·tail (getD-in l k (le-of-suc-le-suc h))
-
 -- a rule put in at two places that follow one another gives two lists, if it was in none
-two-places : (x k : ℕ) (l : List ℕ) → ¬ In x l → k < length l → take k l ++ (x ∷ drop k l) ≢ take (suc k) l ++ (x ∷ drop (suc k) l)
+two-places : (x k : ℕ) (l : List ℕ) → ¬ In x l → k < length l
+    → take k l ++ (x ∷ drop k l) ≢ take (suc k) l ++ (x ∷ drop (suc k) l)
 two-places x k l n h e =
-    let early : getD (take k l ++ (x ∷ drop k l)) k 0 ≡ x = getD-at (take k l) x (drop k l) 0 k (length-take-le k l (omega arith)) in
+    let early : getD (take k l ++ (x ∷ drop k l)) k 0 ≡ x =
+    getD-at (take k l) x (drop k l) 0 k (length-take-le k l (omega arith)) in
     let long : length (take (suc k) l) ≡ suc k = length-take-le (suc k) l h in
     let late : getD (take (suc k) l ++ (x ∷ drop (suc k) l)) k 0 ≡ getD l k 0 =
     List·getD-append (take (suc k) l) (x ∷ drop (suc k) l) 0 k (omega arith) ∙ getD-take (suc k) l k 0 (omega arith) in
-    n (Memᴰ·cast (sym early ∙ ap (λ (m : List ℕ). getD m k 0) e ∙ late) (getD-in l k h))
+    n (Memᴰ·cast (sym early ∙ ap (λ (m : List ℕ). getD m k 0) e ∙ late) (place-in 0 l k h))
 
 pub counting-early-is-wrong : CountingEarlyIsWrong
 unfolding movedEarly moved placed lifted ruleAt
@@ -90,12 +84,10 @@ counting-early-is-wrong (suc i) (suc (suc j)) l d p q b =
     let at : l ≡ take i l ++ (getD l i 0 ∷ drop (suc i) l) = split-at l i 0 (omega arith) in
     let gone = distinct-around (getD l i 0) (take i l) (drop (suc i) l) (rw at at d) in
     let test : ltb (suc i) (suc (suc j)) ≡ true = lt-ltb (suc i) (suc (suc j)) q in
-    let from : suc i - 1 ≡ i = omega arith in
-    let to : suc (suc j) - 1 ≡ suc j = omega arith in
-    let early : suc j - 1 ≡ j = omega arith in
     let long : j < length (take i l ++ drop (suc i) l) =
     omega (arith, b, q, length-append (take i l) (drop (suc i) l), length-take-le i l (omega arith), length-drop (suc i) l) in
-    rw (test, from, to, early) (two-places (getD l i 0) j (take i l ++ drop (suc i) l) (gone .0) long)
+    rw (test, sub-one (suc i), sub-one (suc (suc j)), sub-one (suc j))
+    (two-places (getD l i 0) j (take i l ++ drop (suc i) l) (gone .0) long)
 
 pub ends-are-not-enough : EndsAreNotEnough
 unfolding replay replayFrom lists step needs within lifted placed mem decided decide decideFrom hitting denies-but-one
