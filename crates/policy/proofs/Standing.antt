@@ -1,5 +1,5 @@
--- Lists that follow the order of another, and a rule taken out, moved down or moved up behind a front part: what stood before what
--- still does. Each law goes by where the two rules stand: in the front part, behind it, or one on each side. Assumes nothing.
+-- Lists that follow the order of another, and a rule taken out, moved down or moved up behind a front part: what stood before
+-- what still does. A law goes by where the two rules stand: in the front part, behind it, or one on each side. Assumes nothing.
 use Prim.Native.Nat.{ℕ}
 use mathlib.Core.Path.{_≡_, refl, sym, _∙_, ap, subst}
 use mathlib.Core.Logic.{inl, inr, ⊎-elim, _≢_}
