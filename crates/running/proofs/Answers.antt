@@ -1,0 +1,63 @@
+-- "Each public entry promises one answer for each input": any two answers that a method's contract allows show the same. A list shows its first
+-- `len` slots, and what lies behind them is nobody's; numbers, namings and side arrays are equal outright. Each follows from the contract as
+-- the checker reads it, so a weaker contract breaks it. Assumes nothing.
+use Prim.Native.Nat.{ℕ}
+use mathlib.Core.Path.{_≡_, sym, _∙_, ap}
+use mathlib.Core.List.{List}
+use Rattle.running.specs.declared.Running.{Running}
+use Rattle.running.specs.declared.Edited.{Edited}
+use Rattle.running.specs.declared.Naming.{Naming}
+use Rattle.running.specs.declared.Places.{Places}
+use Rattle.running.specs.Running.{view, shown}
+use Rattle.running.proofs.Running.empty.Reads as empty
+use Rattle.running.proofs.Running.count.Reads as count
+use Rattle.running.proofs.Running.app.Reads as app
+use Rattle.running.proofs.Running.del_rule.Reads as del-rule
+use Rattle.running.proofs.Running.ins.Reads as ins
+use Rattle.running.proofs.Running.del_place.Reads as del-place
+use Rattle.running.proofs.Running.mov.Reads as mov
+use Rattle.running.proofs.Running.naming.Reads as naming
+use Rattle.running.proofs.Places.none.Reads as none
+use Rattle.running.proofs.Places.place.Reads as place
+use Rattle.running.proofs.Places.cleared.Reads as cleared
+use Rattle.running.proofs.Places.numbered.Reads as numbered
+
+-- equal slots make equal arrays
+same-places : (r s : Places) → r .of ≡ s .of → r ≡ s
+same-places r s e = ap (λ (of : List ℕ). record { of = of }) e
+
+pub one-empty : (κ : _) (a : _) (r s : Running) (e f : _) → empty.Post κ a r e → empty.Post κ a s f → view r ≡ view s
+one-empty κ a r s e f p q = p ∙ sym q
+
+pub one-count : (κ : _) (a : _) (r s : ℕ) (e f : _) → count.Post κ a r e → count.Post κ a s f → r ≡ s
+one-count κ a r s e f p q = p ∙ sym q
+
+pub one-app : (κ : _) (a : _) (r s : Edited) (e f : _) → app.Post κ a r e → app.Post κ a s f → shown r ≡ shown s
+one-app κ a r s e f p q = p ∙ sym q
+
+pub one-del-rule : (κ : _) (a : _) (r s : Edited) (e f : _) → del-rule.Post κ a r e → del-rule.Post κ a s f → shown r ≡ shown s
+one-del-rule κ a r s e f p q = p ∙ sym q
+
+pub one-ins : (κ : _) (a : _) (r s : Edited) (e f : _) → ins.Post κ a r e → ins.Post κ a s f → shown r ≡ shown s
+one-ins κ a r s e f p q = p ∙ sym q
+
+pub one-del-place : (κ : _) (a : _) (r s : Edited) (e f : _) → del-place.Post κ a r e → del-place.Post κ a s f → shown r ≡ shown s
+one-del-place κ a r s e f p q = p ∙ sym q
+
+pub one-mov : (κ : _) (a : _) (r s : Edited) (e f : _) → mov.Post κ a r e → mov.Post κ a s f → shown r ≡ shown s
+one-mov κ a r s e f p q = p ∙ sym q
+
+pub one-naming : (κ : _) (a : _) (r s : Naming) (e f : _) → naming.Post κ a r e → naming.Post κ a s f → r ≡ s
+one-naming κ a r s e f p q = p ∙ sym q
+
+pub one-none : (κ : _) (a : _) (r s : Places) (e f : _) → none.Post κ a r e → none.Post κ a s f → r ≡ s
+one-none κ a r s e f p q = same-places r s (p ∙ sym q)
+
+pub one-place : (κ : _) (a : _) (r s : ℕ) (e f : _) → place.Post κ a r e → place.Post κ a s f → r ≡ s
+one-place κ a r s e f p q = p ∙ sym q
+
+pub one-cleared : (κ : _) (a : _) (r s : Places) (e f : _) → cleared.Post κ a r e → cleared.Post κ a s f → r ≡ s
+one-cleared κ a r s e f p q = same-places r s (p ∙ sym q)
+
+pub one-numbered : (κ : _) (a : _) (r s : Places) (e f : _) → numbered.Post κ a r e → numbered.Post κ a s f → r ≡ s
+one-numbered κ a r s e f p q = same-places r s (p ∙ sym q)
