@@ -24,7 +24,7 @@ use mathlib.Core.List.{
   List·Memᴰ·eq-of-singleton,
   List·Memᴰ·not-nil,
 }
-use lib.ListN.{length, take, drop, length-append, length-drop, take-append-drop, drop-of-length-le}
+use lib.ListN.{length, take, drop, getD, length-append, length-drop, take-append-drop, drop-of-length-le}
 use lib.Seq.{length-take-le, take-at, drop-at, drop-drop}
 use Rattle.deployment.specs.Bytes.{numberFrom, number, bytesOf, part, chunks, joined}
 use Rattle.deployment.specs.Properties.{AreBytes}
@@ -57,6 +57,11 @@ are-bytes-drop n l h = are-bytes-right (take n l) (drop n l) (rw take-append-dro
 pub are-bytes-part : (start size : ℕ) (l : List ℕ) → AreBytes l → AreBytes (part start size l)
 unfolding part
 are-bytes-part start size l h = are-bytes-take size (drop start l) (are-bytes-drop start l h)
+
+pub elements-are-bytes : (l : List ℕ) → ((i : ℕ) → getD l i 0 < 256) → AreBytes l
+elements-are-bytes [] h b t = absurd (List·Memᴰ·not-nil t)
+elements-are-bytes (x ∷ l) h b t =
+    ⊎-elim (λ same. rw same (h 0)) (λ k. elements-are-bytes l (λ i. h (suc i)) b k) (List·Memᴰ·cases-cons t)
 
 -- A number and its bytes.
 pub number-snoc : (n : ℕ) (bytes : List ℕ) (b : ℕ) → numberFrom n (bytes ++ (b ∷ [])) ≡ numberFrom n bytes * 256 + b

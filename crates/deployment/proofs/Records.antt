@@ -7,13 +7,16 @@ use native.Mathlib.Omega.{arith}
 use mathlib.Core.Path.{_≡_, refl, sym, _∙_, ap}
 use mathlib.Core.Bool.{false}
 use mathlib.Core.List.{List, [], _∷_, map, map-map}
-use lib.ListN.{length, take, drop, getD, length-map, List·getD-map, List·getD-eq-default}
-use lib.Seq.{drop-cons, drop-drop, take-nil, getD-take, getD-drop}
+use mathlib.Core.Option.{none}
+use borrow.Author.Tests.{lt-ltb, le-ltb}
+use lib.ListN.{length, take, drop, getD, length-drop, length-map, List·getD-map, List·getD-eq-default}
+use lib.Seq.{take-all, drop-cons, drop-drop, take-nil, getD-take, getD-drop}
 use Rattle.policy.specs.Rule.{Rule, matches, hits, says}
 use Rattle.policy.specs.declared.Action.the-variants.{Deny}
 use Rattle.policy.specs.declared.Flow.{Flow}
 use Rattle.deployment.specs.Bytes.{numberFrom, number, part, chunks}
-use Rattle.deployment.specs.Values.{rule-bytes, actionOf, ruleOf, numbersOf}
+use Rattle.deployment.specs.Values.{rule-bytes, actionOf, ruleOf, numbersOf, commandFrom, codedOf}
+use Rattle.deployment.specs.Commands.{commandCount, commandAt}
 use Rattle.deployment.specs.Catalogue.{recordCount, recordsOf, catalogueOf}
 use Rattle.deployment.proofs.Bytes.{length-part, length-chunks}
 
@@ -44,10 +47,18 @@ pub part-between : (start size : ℕ) (l : List ℕ) → take (start + size - st
 unfolding part
 part-between start size l = rw add-sub-cancel-left
 
+-- .. and from its start to the end of the bytes
+pub part-to-end : (start : ℕ) (l : List ℕ) → take (length l - start) (drop start l) ≡ drop start l
+part-to-end start l = take-all (length l - start) (drop start l) (omega (arith, length-drop start l))
+
 -- the number of one byte is that byte
 pub number-one : (b : ℕ) → b ≡ number (b ∷ [])
 unfolding number numberFrom
 number-one b = omega arith
+
+-- the number of the first byte
+pub first-byte : (l : List ℕ) → 1 ≤ length l → number (part 0 1 l) ≡ getD l 0 0
+first-byte l h = ap number (part-elements 0 0 l (omega arith)) ∙ sym (number-one (getD l 0 0))
 
 -- a part of a part
 pub drop-take {ℓ} : {A : Type ℓ} (m n : ℕ) (l : List A) → drop m (take (m + n) l) ≡ take n (drop m l)
@@ -84,6 +95,28 @@ number-at value k h = rw (mul-comm 2 k) (read-at number 2 (length value / 2) val
 
 pub number-past : (value : List ℕ) (k : ℕ) → length value / 2 ≤ k → getD (numbersOf value) k 0 ≡ 0
 number-past value k h = List·getD-eq-default (numbersOf value) 0 (rw numbers-length h)
+
+-- Scripts.
+pub command-at : (value : List ℕ) (k : ℕ) → k < commandCount value
+    → commandAt value k
+    ≡ commandFrom (getD value 0 0)
+    (record {
+      code = getD value (1 + 5 * k) 0;
+      one = number (getD value (1 + 5 * k + 1) 0 ∷ getD value (1 + 5 * k + 2) 0 ∷ []);
+      two = number (getD value (1 + 5 * k + 3) 0 ∷ getD value (1 + 5 * k + 4) 0 ∷ []);
+    })
+unfolding commandAt commandCount codedOf part
+command-at value k h =
+    rw (
+      lt-ltb k (commandCount value) h,
+      first-byte value (omega arith),
+      part-elements (1 + 5 * k) 4 value (omega arith),
+      ← number-one (getD value (1 + 5 * k) 0),
+    )
+
+pub command-past : (value : List ℕ) (k : ℕ) → commandCount value ≤ k → commandAt value k ≡ none
+unfolding commandAt
+command-past value k h = rw (le-ltb k (commandCount value) h)
 
 -- Catalogues: a rule's number is its index.
 pub hits-at : (catalogue : List Rule) (flow : Flow) (n : ℕ) (d : Rule) → n < length catalogue
@@ -123,7 +156,7 @@ module _ (skip : ℕ) (bytes : List ℕ) where
       ∙ length-map (chunks (skip + rule-bytes) (recordCount skip bytes) bytes) (drop skip)
       ∙ length-chunks (skip + rule-bytes) (recordCount skip bytes) bytes
 
-  rule-at : (n : ℕ) → n < recordCount skip bytes
+  pub rule-at : (n : ℕ) → n < recordCount skip bytes
       → getD (catalogueOf skip bytes) n (ruleOf (drop skip [])) ≡ ruleOf (recordAt skip n bytes)
   unfolding catalogueOf recordsOf part
   rule-at n h =
@@ -155,8 +188,7 @@ module _ (skip : ℕ) (bytes : List ℕ) where
       let whole : length (recordAt skip n bytes) ≡ rule-bytes =
       length-part start rule-bytes bytes (omega (arith, piece-fits (skip + rule-bytes) (length bytes) n h)) in
       let first : number (part 0 1 (recordAt skip n bytes)) ≡ getD bytes start 0 =
-      ap number (part-elements 0 0 (recordAt skip n bytes) (omega arith))
-      ∙ sym (number-one (getD (recordAt skip n bytes) 0 0))
+      first-byte (recordAt skip n bytes) (omega arith)
       ∙ part-at start rule-bytes bytes 0 (omega arith)
       ∙ ap (λ (i : ℕ). getD bytes i 0) (add-zero start) in
       says-record n h ∙ ap actionOf first

@@ -219,23 +219,39 @@ rule-tests value fits =
     six-and (leb (number (part 0 1 value)) 1) (rising (rangeAt 1 1 value)) (rising (rangeAt 3 4 value))
     (rising (rangeAt 11 2 value)) (rising (rangeAt 15 4 value)) (rising (rangeAt 23 2 value)) fits
 
+-- the bytes behind the action are those of the five ranges
+abbrev pub boundBytes : Rule → List ℕ
+boundBytes rule =
+    rangeBytes 1 (rule .protocol)
+    ++ (rangeBytes 4 (rule .source)
+    ++ (rangeBytes 2 (rule .source-port)
+    ++ (rangeBytes 4 (rule .destination)
+    ++ rangeBytes 2 (rule .destination-port))))
+
+pub bounds-written : (value : List ℕ) → AreBytes value → length value ≡ 27 → boundBytes (ruleOf value) ≡ drop 1 value
+unfolding ruleOf
+bounds-written value h long =
+    let last : rangeBytes 2 (rangeAt 23 2 value) ≡ drop 23 value =
+    sym (append-nil (rangeBytes 2 (rangeAt 23 2 value)))
+    ∙ ap (λ (l : List ℕ). rangeBytes 2 (rangeAt 23 2 value) ++ l) (sym (drop-of-length-le value {i = 27} (omega arith)))
+    ∙ range-written 23 2 value h (omega arith) in
+    rw (
+      last,
+      range-written 15 4 value h (omega arith),
+      range-written 11 2 value h (omega arith),
+      range-written 3 4 value h (omega arith),
+      range-written 1 1 value h (omega arith),
+    )
+
 -- bytes that fit are those of the rule that they are read as, and a record can hold it
 module _ (value : List ℕ) (h : AreBytes value) (long : length value ≡ 27) (fits : ruleFits value ≡ true) where
   pub rule-written : ruleBytes (ruleOf value) ≡ value
   unfolding ruleBytes ruleOf
   rule-written =
-      let last : rangeBytes 2 (rangeAt 23 2 value) ≡ drop 23 value =
-      sym (append-nil (rangeBytes 2 (rangeAt 23 2 value)))
-      ∙ ap (λ (l : List ℕ). rangeBytes 2 (rangeAt 23 2 value) ++ l) (sym (drop-of-length-le value {i = 27} (omega arith)))
-      ∙ range-written 23 2 value h (omega arith) in
       rw (
         action-written (number (part 0 1 value)) (leb-true _ _ (rule-tests value fits .0)),
         part-written 0 1 value h (omega arith),
-        last,
-        range-written 15 4 value h (omega arith),
-        range-written 11 2 value h (omega arith),
-        range-written 3 4 value h (omega arith),
-        range-written 1 1 value h (omega arith),
+        bounds-written value h long,
         part-rest 0 1 value,
       )
 
@@ -252,14 +268,14 @@ module _ (value : List ℕ) (h : AreBytes value) (long : length value ≡ 27) (f
       }
 
 -- Equal rules.
-same-action-eq : (a b : Action) → sameAction a b ≡ true → a ≡ b
+pub same-action-eq : (a b : Action) → sameAction a b ≡ true → a ≡ b
 unfolding sameAction
 same-action-eq Deny Deny e = refl
 same-action-eq Deny Permit e = never e refl
 same-action-eq Permit Deny e = never e refl
 same-action-eq Permit Permit e = refl
 
-same-action-refl : (a : Action) → sameAction a a ≡ true
+pub same-action-refl : (a : Action) → sameAction a a ≡ true
 unfolding sameAction
 same-action-refl Deny = refl
 same-action-refl Permit = refl
@@ -579,7 +595,7 @@ script-read s h =
     rw (type, type-known (s .type) (h .type), commands, type)
 
 -- what a script is read from
-script-of : (value : List ℕ) (s : Script) → scriptOf value ≡ some s
+pub script-of : (value : List ℕ) (s : Script) → scriptOf value ≡ some s
     → ((s .type ≡ 1) ⊎ (s .type ≡ 2)) × (s .type ≡ number (part 0 1 value))
     × (everyCommand (s .type) (commandChunks value) ≡ some (s .commands))
 unfolding scriptOf

@@ -3,6 +3,7 @@ pub mod Checked
 pub mod Bytes
 pub mod Values
 pub mod Contents
+pub mod Commands
 pub mod Catalogue
 pub mod File
 pub mod FieldValues

@@ -4,7 +4,10 @@ ghost use mathlib.Core.Path.{_≡_};
 ghost use mathlib.Core.List.{[], _∷_};
 ghost use lib.ListN.{length, getD};
 ghost use Rattle.deployment.specs.Bytes.{number, part};
-ghost use Rattle.deployment.specs.Values.{numbersOf};
+ghost use Rattle.deployment.specs.Values.{numbersOf, commandFrom, codedBytes};
+ghost use Rattle.deployment.specs.Commands.{commandCount, commandAt, decoded};
+ghost use Rattle.policy.specs.Command.{coded};
+use policy::Command;
 
 // Numbers 1 to 13 of "Turned away".
 pub enum Why {
@@ -58,4 +61,92 @@ pub fn number_at(value: &[u8], k: usize) -> u16
     }
     let at = 2 * k;
     two(value[at], value[at + 1])
+}
+
+// A command, or bytes that are none of the script's type.
+pub enum Decoded {
+    Is(Command),
+    Wrong,
+}
+
+// "Type 1: code 1 `app r`, code 2 `del r`. Type 2: code 3 `ins i r`, code 4 `del i`, code 5 `mov i j`"; a number that isn't used is 0.
+pub fn decode(kind: u8, code: u8, one: u16, two: u16) -> Decoded
+    ensures { λ d. ⌜ d ≡ decoded (commandFrom kind (record { code = code; one = one; two = two })) ⌝ }
+{
+    if kind == Command::APPEND_DELETE {
+        if two != 0 {
+            return Decoded::Wrong;
+        }
+        return match code {
+            Command::APP => Decoded::Is(Command::App(one)),
+            Command::DEL_RULE => Decoded::Is(Command::DelRule(one)),
+            _ => Decoded::Wrong,
+        };
+    }
+    if kind != Command::INSERT_DELETE_MOVE {
+        return Decoded::Wrong;
+    }
+    match code {
+        Command::INS => Decoded::Is(Command::Ins(one, two)),
+        Command::MOV => Decoded::Is(Command::Mov(one, two)),
+        Command::DEL_PLACE => {
+            if two == 0 {
+                Decoded::Is(Command::DelPlace(one))
+            } else {
+                Decoded::Wrong
+            }
+        }
+        _ => Decoded::Wrong,
+    }
+}
+
+// How many commands a script value has.
+pub fn commands(script: &[u8]) -> usize
+    ensures { λ n. ⌜ n ≡ commandCount (now (script .entry)) ⌝ }
+{
+    if script.len() == 0 {
+        return 0;
+    }
+    (script.len() - 1) / 5
+}
+
+// The k-th command of a script value, counted from 0.
+pub fn command_at(script: &[u8], k: usize) -> Decoded
+    ensures { λ d. ⌜ d ≡ decoded (commandAt (now (script .entry)) k) ⌝ }
+{
+    if commands(script) <= k {
+        return Decoded::Wrong;
+    }
+    let at = 1 + 5 * k;
+    decode(
+        script[0],
+        script[at],
+        two(script[at + 1], script[at + 2]),
+        two(script[at + 3], script[at + 4]),
+    )
+}
+
+// "A command is one code byte and two two-byte numbers."
+pub fn record_of(c: Command) -> [u8; 5]
+    ensures { λ r. ⌜ r ≡ codedBytes (coded c) ⌝ }
+{
+    match c {
+        Command::App(r) => five(Command::APP, r, 0),
+        Command::DelRule(r) => five(Command::DEL_RULE, r, 0),
+        Command::Ins(i, r) => five(Command::INS, i, r),
+        Command::DelPlace(i) => five(Command::DEL_PLACE, i, 0),
+        Command::Mov(i, j) => five(Command::MOV, i, j),
+    }
+}
+
+fn five(code: u8, one: u16, two: u16) -> [u8; 5]
+    ensures { λ r. ⌜ r ≡ codedBytes (record { code = code; one = one; two = two }) ⌝ }
+{
+    [
+        code,
+        (one / 256) as u8,
+        (one % 256) as u8,
+        (two / 256) as u8,
+        (two % 256) as u8,
+    ]
 }

@@ -1,0 +1,5 @@
+pub mod Settled
+pub mod Steps
+pub mod Scripts
+pub mod Values
+pub mod Answers

@@ -1,0 +1,3 @@
+-- What the replay answers, over the definitions of the crates below.
+pub mod Stepping
+pub mod Answers
