@@ -19,7 +19,7 @@ use Rattle.deployment.specs.declared.Why.the-variants.{
 }
 
 -- the table's first column
-unfoldable pub whyNumber : Why → ℕ
+abbrev pub whyNumber : Why → ℕ
 whyNumber Cut = 1
 whyNumber Tag = 2
 whyNumber NoTarget = 3

@@ -3,6 +3,7 @@
 ghost use mathlib.Core.Path.{_≡_};
 ghost use mathlib.Core.List.{[], _∷_};
 ghost use lib.ListN.{length, getD};
+ghost use Rattle.deployment.specs.Checked.{whyNumber};
 ghost use Rattle.deployment.specs.Bytes.{number, part};
 ghost use Rattle.deployment.specs.Values.{numbersOf, commandFrom, codedBytes};
 ghost use Rattle.deployment.specs.Commands.{commandCount, commandAt, decoded};
@@ -24,6 +25,29 @@ pub enum Why {
     Coding,
     NoScript,
     Room,
+}
+
+impl Why {
+    // The table's number.
+    pub fn number(self) -> u8
+        ensures { λ n. ⌜ n ≡ whyNumber self ⌝ }
+    {
+        match self {
+            Why::Cut => 1,
+            Why::Tag => 2,
+            Why::NoTarget => 3,
+            Why::Length => 4,
+            Why::Bounds => 5,
+            Why::Equal => 6,
+            Why::TooMany => 7,
+            Why::Outside => 8,
+            Why::Twice => 9,
+            Why::Keep => 10,
+            Why::Coding => 11,
+            Why::NoScript => 12,
+            Why::Room => 13,
+        }
+    }
 }
 
 // The number's case, and the position.

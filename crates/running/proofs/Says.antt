@@ -29,9 +29,8 @@ use Rattle.policy.specs.Lists.{mem, before, after, without}
 use Rattle.policy.specs.Command.{ruleAt, lifted, placed, moved}
 use Rattle.policy.specs.Properties.{In, Distinct, Within}
 use Rattle.policy.proofs.Tests.{byTest, falsely}
-use Rattle.policy.proofs.Lists.{mem-in, not-mem, before-after, not-before}
-use Rattle.policy.proofs.Order.{distinct-right, distinct-apart, distinct-around, around-distinct}
-use Rattle.policy.proofs.Lists.{in-around, around-cases}
+use Rattle.policy.proofs.Lists.{in-around, around-cases, mem-in, not-mem, before-after, not-before}
+use Rattle.policy.proofs.Order.{distinct-right, distinct-apart, not-earlier, distinct-around, around-distinct}
 use Rattle.running.specs.Places.{further, placeIn, renumbered, Says}
 
 -- The place of a rule.
@@ -160,7 +159,7 @@ says-lifted places u v x d right =
     let behind = distinct-right u (x ∷ v) d in
     says-behind v (set places x 0) u (length-set places x 0 ∙ right .0) (behind .1)
     (λ r h k. distinct-apart u (x ∷ v) d r k (List·Memᴰ·tail h))
-    (λ r h n. set-right places u x 0 (right .0) (sym (place-absent x u (λ k. distinct-apart u (x ∷ v) d x k (List·Memᴰ·head refl)))) r h
+    (λ r h n. set-right places u x 0 (right .0) (sym (place-absent x u (not-earlier x u v d))) r h
     (λ other. right .1 r h ∙ place-front r u (x ∷ v) (λ k. ⊎-elim other n (List·Memᴰ·cases-cons k))))
 
 -- a rule put in
