@@ -1,11 +1,11 @@
--- Whether a number lies in a range of a record, at every width: what its low bound decides alone, and what is left to its high bound;
--- and what a test that is made says of what it stands for. Assumes nothing.
+-- Whether a number lies in a range of a record, at every width: what its low bound decides alone, and what is left to its high bound.
+-- Assumes nothing.
 use Prim.Native.Nat.{ℕ, suc, _+_, _*_, _≤_, _<_}
 use native.Mathlib.Omega.{arith}
 use mathlib.Core.Path.{_≡_, refl, sym, _∙_, ap}
 use mathlib.Core.List.{List, _∷_}
 use mathlib.Core.Bool.{Bool, true, false, not}
-use borrow.Author.Tests.{le-leb, lt-leb, not-true, not-false}
+use borrow.Author.Tests.{le-leb, lt-leb}
 use lib.Dec.{leb}
 use lib.ListN.{length, getD}
 use Rattle.policy.specs.Rule.{lies}
@@ -30,10 +30,3 @@ module _ (rule : List ℕ) (at size n : ℕ) (fits : at + 2 * suc size ≤ lengt
       let high-bound : number (part (at + suc size) (suc size) rule) ≡ high =
       ap number (part-from at (suc size) (suc size) rule (omega arith)) ∙ sym is-high in
       rw (low-bound, high-bound, le-leb low n h)
-
--- a test `!r` that holds, and one that doesn't
-pub fails : {r b : Bool} → r ≡ b → not r ≡ true → b ≡ false
-fails {r} e t = sym e ∙ not-true r t
-
-pub passes : {r b : Bool} → r ≡ b → not r ≡ false → b ≡ true
-passes {r} e t = sym e ∙ not-false r t

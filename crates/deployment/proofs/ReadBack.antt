@@ -384,7 +384,7 @@ valid-readable c h =
     scripted none k = tt
     scripted (some script) k = (tt, k)
 
-file-fields : (c : Contents) → fileOf c ≡ fieldsBytes (fieldsOf c)
+pub file-fields : (c : Contents) → fileOf c ≡ fieldsBytes (fieldsOf c)
 unfolding fileOf fieldsBytes fieldsOf ifThere
 file-fields c = refl
 
@@ -397,7 +397,7 @@ read-back c h = (
 )
 
 -- "An accepted file never exceeds 44,045 bytes": 1,024 rules of 30, two policies and a keep list of 1,027, a script of 10,244.
-rules-length : (catalogue : List Rule) → length (joined (map ruleField catalogue)) ≡ 30 * length catalogue
+pub rules-length : (catalogue : List Rule) → length (joined (map ruleField catalogue)) ≡ 30 * length catalogue
 rules-length catalogue =
     length-joined 30 (map ruleField catalogue)
     (λ piece t.

@@ -200,7 +200,7 @@ pub reading-right : (n : ℕ) (f : Fields) (left : List ℕ) → length left ≤
 reading-right zero f left h r b = by-rest f left r b (λ g rest shorter. absurd (omega arith))
 reading-right (suc n) f left h r b = by-rest f left r b (λ g rest shorter. reading-right n g rest (omega arith))
 
-nothing-readable : Readable nothing
+pub nothing-readable : Readable nothing
 unfolding nothing
 nothing-readable =
     record {

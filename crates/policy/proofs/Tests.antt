@@ -59,3 +59,10 @@ not-first n (inr b) = b
 pub not-second {ℓ κ} : {A : Type ℓ} {B : Type κ} → (B → ⊥) → A ⊎ B → A
 not-second n (inl a) = a
 not-second n (inr b) = absurd (n b)
+
+-- a test `!r` that code makes of an answer r, where it holds and where it doesn't
+pub fails : {r b : Bool} → r ≡ b → not r ≡ true → b ≡ false
+fails e t = sym e ∙ not-true t
+
+pub passes : {r b : Bool} → r ≡ b → not r ≡ false → b ≡ true
+passes {r} e f = sym e ∙ byTest r (λ t. t) (λ g. never (false-not g) f)

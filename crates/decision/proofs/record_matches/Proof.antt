@@ -3,7 +3,7 @@ use mathlib.Core.Path.{_≡_}
 use mathlib.Core.Bool.{true}
 use Rattle.policy.specs.Rule.{lies, matches}
 use Rattle.deployment.specs.Values.{ruleOf, rangeAt}
-use Rattle.decision.proofs.Ranges.{fails, passes}
+use Rattle.policy.proofs.Tests.{fails, passes}
 use borrow.Author.Needs.{needs}
 use Rattle.decision.proofs.record_matches.Statement.{statement}
 use Rattle.decision.proofs.record_matches.Tie as tie

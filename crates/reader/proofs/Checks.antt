@@ -1,0 +1,202 @@
+-- The value of a field: the test that its tag names, over what the file's first bytes hold, is that of the definitions. The idea:
+-- those bytes are those of the fields read so far. Assumes nothing.
+use Prim.Native.Nat.{ℕ, _≤_, min}
+use native.Mathlib.Omega.{arith}
+use mathlib.Core.Path.{_≡_, refl, sym, _∙_, ap, subst}
+use mathlib.Core.Bool.{true}
+use mathlib.Core.Logic.{_⊎_, ⊎-elim}
+use mathlib.Core.List.{List, [], _∷_}
+use mathlib.Core.Option.{Option, none, some}
+use lib.ListN.{length, take, drop}
+use borrow.Author.Tests.{eq-eqb}
+use Rattle.policy.specs.Policy.{most-rules}
+use Rattle.deployment.specs.Checked.{Checked, good, bad, _>>=_}
+use Rattle.deployment.specs.Bytes.{chunks, joined}
+use Rattle.deployment.specs.Values.{rule-bytes, numbersOf, numbersBytes, listFits}
+use Rattle.deployment.specs.Catalogue.{catalogueOf}
+use Rattle.deployment.specs.Contents.{ruleRead, policyRead, keepRead, scriptRead}
+use Rattle.deployment.specs.FieldValues.{policyValue, keepValue, scriptValue}
+use Rattle.deployment.specs.File.{
+  Fields,
+  Field,
+  listed,
+  fieldRead,
+  withRule,
+  withInitial,
+  withTarget,
+  withKeep,
+  withScript,
+  withField,
+  rule-tag,
+  initial-tag,
+  target-tag,
+  keep-tag,
+  script-tag,
+  head-bytes,
+}
+use Rattle.deployment.specs.Properties.{
+  Listed,
+  IfThere,
+  There,
+  Readable,
+  fieldsBytes,
+  tagOf,
+  sizeOf,
+  valueOf,
+  CanStand,
+  RightLength,
+  Whole,
+}
+use Rattle.deployment.proofs.Bytes.{length-part}
+use Rattle.deployment.proofs.Tests.{says-list, says-script}
+use Rattle.deployment.proofs.Values.{numbers-read}
+use Rattle.deployment.proofs.Fields.{
+  Stage,
+  stage,
+  FieldRight,
+  field-right,
+  whole-read,
+  with-rule,
+  with-initial,
+  with-target,
+  with-keep,
+  with-script,
+  rule-size,
+  list-size,
+  script-size,
+}
+use Rattle.reader.specs.Answers.{checking, ruleValue, valueAt}
+use Rattle.reader.specs.Steps.{progressOf, Begun}
+use Rattle.reader.specs.declared.file.Progress.{Progress}
+use Rattle.reader.proofs.Places.{initial-stands, target-stands, catalogue-first}
+use Rattle.reader.proofs.Heads.{same-count}
+
+-- The field that was read: whole, and of the right length.
+read-some : (f : Fields) (left : List ℕ) (field : Field) → fieldRead f left ≡ good field → 1 ≤ length left
+unfolding fieldRead
+read-some f [] field e = absurd (let z : _≡_ {A = ℕ} 0 1 = cc in omega arith)
+read-some f (x ∷ l) field e = omega arith
+
+module _
+    {f : Fields} (s : Stage f) (left : List ℕ) (tag : ℕ) (value : List ℕ)
+    (read : fieldRead f left ≡ good (record { tag = tag; value = value })) where
+  pub read-whole : Whole f left
+  read-whole = subst (FieldRight f left) read (field-right f left s (read-some f left _ read))
+
+  pub read-field : _≡_ {A = Field} (record { tag = tag; value = value }) (record { tag = tagOf left; value = valueOf left })
+  read-field = let whole = whole-read s left read-whole in cc
+
+  pub read-long : length value ≡ sizeOf left
+  read-long = ap (λ (field : Field). length (field .value)) read-field ∙ length-part head-bytes (sizeOf left) left (read-whole .1)
+
+  read-right : RightLength tag (length value)
+  read-right = rw (ap (λ (field : Field). field .tag) read-field, read-long) (read-whole .0 .1)
+
+  pub read-stands : CanStand f tag
+  read-stands = rw (ap (λ (field : Field). field .tag) read-field) (read-whole .0 .0 .0 .1)
+
+-- whether tests pass does not hang on what is made of the value
+checking-then : {A B : Type 0} (read : Checked A) (made : A → B) → checking (_>>=_ read (λ a. good (made a))) ≡ checking read
+unfolding checking
+checking-then (good a) made = refl
+checking-then (bad why) made = refl
+
+-- numbers that a catalogue has, read back from their bytes
+numbers-back : (size : ℕ) (l : List ℕ) → size ≤ most-rules → Listed size l → numbersOf (numbersBytes l) ≡ l
+numbers-back size l few h = numbers-read l (λ n t. omega (arith, h .sound .inside n t))
+
+no-numbers : numbersOf (numbersBytes []) ≡ []
+unfolding numbersOf numbersBytes joined chunks
+no-numbers = refl
+
+initial-back : (f : Fields) → Readable f → numbersOf (numbersBytes (listed (f .initial))) ≡ listed (f .initial)
+unfolding listed
+initial-back f r = go (f .initial) (r .initial)
+  where
+    go : (o : Option (List ℕ)) → IfThere (Listed (length (f .catalogue))) o → numbersOf (numbersBytes (listed o)) ≡ listed o
+    go none h = no-numbers
+    go (some l) h = numbers-back (length (f .catalogue)) l (r .catalogue .few) h
+
+target-back : (f : Fields) → Readable f → numbersOf (numbersBytes (listed (f .target))) ≡ listed (f .target)
+unfolding listed
+target-back f r = go (f .target) (r .target)
+  where
+    go : (o : Option (List ℕ)) → IfThere (λ policy. There (f .initial) × Listed (length (f .catalogue)) policy) o
+        → numbersOf (numbersBytes (listed o)) ≡ listed o
+    go none h = no-numbers
+    go (some l) h = numbers-back (length (f .catalogue)) l (r .catalogue .few) (h .1)
+
+-- The tests of a value, by its tag.
+module _
+    (file : List ℕ) (progress : Progress) (f : Fields) (b : Begun file progress f) (tag : ℕ) (value : List ℕ)
+    (read : fieldRead f (drop (progress .at) file) ≡ good (record { tag = tag; value = value })) where
+  right : RightLength tag (length value)
+  right = read-right (stage f (b .readable)) (drop (progress .at) file) tag value read
+
+  same-catalogue : take (progress .layout .rules) (catalogueOf 3 file) ≡ f .catalogue
+  same-catalogue =
+      rw (← same-count file progress f b, b .is)
+      (catalogue-first f (drop (length (fieldsBytes f)) file) (b .readable .catalogue .recordable))
+
+  pub checked-rule : tag ≡ rule-tag
+      → checking (ruleValue (take (progress .layout .rules) (catalogueOf 3 file)) value)
+      ≡ checking (withField f (record { tag = tag; value = value }))
+  unfolding ruleValue withRule
+  checked-rule e =
+      rw (with-rule f tag value e, same-catalogue, eq-eqb (length value) rule-bytes (rule-size e right))
+      (sym (checking-then (ruleRead (f .catalogue) value) _))
+
+  list-fits : ¬ (tag ≡ rule-tag) → ¬ (tag ≡ script-tag) → listFits (length value) ≡ true
+  list-fits n m = says-list (length value) .1 (list-size n m right)
+
+  pub checked-policy : (tag ≡ initial-tag) ⊎ (tag ≡ target-tag)
+      → checking (policyValue (min (progress .layout .rules) 1024) value)
+      ≡ checking (withField f (record { tag = tag; value = value }))
+  unfolding policyValue withInitial withTarget
+  checked-policy which =
+      let few : min (progress .layout .rules) 1024 ≡ length (f .catalogue) =
+      omega (arith, same-count file progress f b, b .readable .catalogue .few) in
+      let fits = list-fits (⊎-elim (λ e. omega arith) (λ e. omega arith) which) (⊎-elim (λ e. omega arith) (λ e. omega arith) which) in
+      rw (few, fits)
+      (⊎-elim
+      (λ e. rw (with-initial f tag value e) (sym (checking-then (policyRead (length (f .catalogue)) value) _)))
+      (λ e. rw (with-target f tag value e) (sym (checking-then (policyRead (length (f .catalogue)) value) _)))
+      which)
+
+  same-initial : numbersOf (valueAt (progress .layout .initial) file) ≡ listed (f .initial)
+  unfolding progressOf
+  same-initial =
+      ap numbersOf
+      (rw (b .known, b .is) (initial-stands f (drop (length (fieldsBytes f)) file)))
+      ∙ initial-back f (b .readable)
+
+  same-target : numbersOf (valueAt (progress .layout .target) file) ≡ listed (f .target)
+  unfolding progressOf
+  same-target =
+      ap numbersOf
+      (rw (b .known, b .is) (target-stands f (drop (length (fieldsBytes f)) file)))
+      ∙ target-back f (b .readable)
+
+  pub checked-keep : (initial target : List ℕ) → initial ≡ valueAt (progress .layout .initial) file
+      → target ≡ valueAt (progress .layout .target) file → tag ≡ keep-tag
+      → checking (keepValue (numbersOf initial) (numbersOf target) (some value))
+      ≡ checking (withField f (record { tag = tag; value = value }))
+  unfolding keepValue withKeep
+  checked-keep initial target i t e =
+      rw (with-keep f tag value e, list-fits (omega arith) (omega arith), i, t, same-initial, same-target)
+      (checking-then (keepRead (listed (f .initial)) (listed (f .target)) value) _
+      ∙ sym (checking-then (keepRead (listed (f .initial)) (listed (f .target)) value) _))
+
+  last-tag : ¬ (tag ≡ rule-tag) → ¬ (tag ≡ initial-tag) → ¬ (tag ≡ target-tag) → ¬ (tag ≡ keep-tag) → tag ≡ script-tag
+  last-tag r i t k =
+      ⊎-elim (λ h. absurd (⊎-elim r i (h .0)))
+      (⊎-elim (λ h. absurd (t (h .0))) (⊎-elim (λ h. absurd (k (h .0))) (λ h. h .0)))
+      (read-stands (stage f (b .readable)) (drop (progress .at) file) tag value read)
+
+  pub checked-script : ¬ (tag ≡ rule-tag) → ¬ (tag ≡ initial-tag) → ¬ (tag ≡ target-tag) → ¬ (tag ≡ keep-tag)
+      → checking (scriptValue (some value)) ≡ checking (withField f (record { tag = tag; value = value }))
+  unfolding scriptValue withScript
+  checked-script r i t k =
+      let e = last-tag r i t k in
+      rw (with-script f tag value e, says-script (length value) .1 (script-size e right))
+      (checking-then (scriptRead value) _ ∙ sym (checking-then (scriptRead value) _))

@@ -1,0 +1,181 @@
+-- Any two answers of `read`, and of `value`, are equal; and what an answer of `read` says of the file. The idea: contents that were
+-- written are fields that were read to the end, so the laws of places hold of them. Assumes nothing.
+use Prim.Native.Nat.{ℕ, _*_, _<_}
+use native.Mathlib.Omega.{arith}
+use mathlib.Core.Path.{_≡_, refl, sym, _∙_, ap}
+use mathlib.Core.List.{List, [], _++_, map, append-nil, List·Memᴰ}
+use mathlib.Core.Option.{Option, none, some}
+use lib.ListN.{length, take}
+use lib.Seq.{take-at}
+use denote.Ref.{now}
+use Rattle.policy.specs.Policy.{most-rules}
+use Rattle.policy.specs.Claims.{Keepable}
+use Rattle.policy.proofs.Order.{sublist-in}
+use Rattle.deployment.specs.Bytes.{joined, chunks}
+use Rattle.deployment.specs.Values.{Script, ruleBytes, numbersOf, numbersBytes, scriptOf, scriptBytes}
+use Rattle.deployment.specs.Catalogue.{recordCount, recordsOf, catalogueOf}
+use Rattle.deployment.specs.Contents.{Contents}
+use Rattle.deployment.specs.File.{Reading, accepted, refused, readFile, listed, fileOf, rule-tag, fieldBytes}
+use Rattle.deployment.specs.Properties.{AreBytes, IfThere, Scripted, Valid, TurnedAway, fieldsBytes}
+use Rattle.deployment.specs.declared.Refusal.{Refusal}
+use Rattle.deployment.proofs.Values.{length-numbers, numbers-read, length-script, script-read}
+use Rattle.deployment.proofs.ReadBack.{rules-length, fieldsOf, file-fields, read-back}
+use Rattle.deployment.proofs.Reader.{written-again, refusals}
+use Rattle.reader.specs.Answers.{valueAt, spanFrom, spanIf, keepBytes, commandBytes, layoutOf, shown, fileRead}
+use Rattle.reader.specs.Steps.{layoutSoFar}
+use Rattle.reader.specs.Claims.{ListStands, ScriptStands, Stands, AcceptedFile, WrittenFile, RefusedFile}
+use Rattle.reader.specs.declared.Span.{Span}
+use Rattle.reader.specs.declared.Layout.{Layout}
+use Rattle.reader.specs.declared.FileRead.{FileRead}
+use Rattle.reader.specs.declared.FileRead.the-variants.{Accepted, Refused}
+use Rattle.reader.proofs.Places.{
+  initial-stands,
+  target-stands,
+  keep-stands,
+  script-part-stands,
+  catalogue-front,
+  catalogue-first,
+}
+use Rattle.reader.proofs.file.read.Reads as read
+use Rattle.reader.proofs.file.value.Reads as value
+
+-- One answer.
+pub one-reading : (κ : _) (a : _) (r s : FileRead) (e f : _) → read.Post κ a r e → read.Post κ a s f → r ≡ s
+one-reading κ a r s e f p q = p ∙ sym q
+
+pub one-value : (κ : _) (a : _) (r s : _) (e f : _) → value.Post κ a r e → value.Post κ a s f → now r ≡ now s
+one-value κ a r s e f p q = p ∙ sym q
+
+-- The places of contents are those of their fields, and their file the bytes of these.
+places-of : (c : Contents) → layoutSoFar (fieldsOf c) ≡ layoutOf c
+unfolding layoutSoFar layoutOf fieldsOf keepBytes spanIf
+places-of c = refl
+
+bytes-of : (c : Contents) → fieldsBytes (fieldsOf c) ++ [] ≡ fileOf c
+bytes-of c = append-nil (fieldsBytes (fieldsOf c)) ∙ sym (file-fields c)
+
+-- a list whose numbers are below a catalogue's count, and a script, where their bytes stand
+a-list-stands : (file : List ℕ) (span : Span) (l : List ℕ) → ((n : ℕ) → List·Memᴰ n l → n < most-rules)
+    → valueAt span file ≡ numbersBytes l → span .size ≡ length (numbersBytes l) → ListStands file span l
+a-list-stands file span l small bytes size =
+    record {
+      bytes = bytes;
+      numbers = ap numbersOf bytes ∙ numbers-read l (λ n t. omega (arith, small n t));
+      size = size ∙ length-numbers l;
+    }
+
+a-script-stands : (file : List ℕ) (span : Span) (s : Script) → Scripted s
+    → valueAt span file ≡ scriptBytes s → span .size ≡ length (scriptBytes s) → ScriptStands file span s
+a-script-stands file span s h bytes size =
+    record { bytes = bytes; script = ap scriptOf bytes ∙ script-read s h; size = size ∙ length-script s }
+
+-- Valid contents stand in their file.
+module _ (c : Contents) (valid : Valid c) where
+  rules-alone : take (30 * length (c .catalogue)) (fileOf c)
+      ≡ joined (map (λ rule. fieldBytes rule-tag (ruleBytes rule)) (c .catalogue))
+  unfolding fileOf
+  rules-alone = take-at _ _ (30 * length (c .catalogue)) (rules-length (c .catalogue))
+
+  catalogue-alone : catalogueOf 3 (take (30 * length (c .catalogue)) (fileOf c)) ≡ c .catalogue
+  unfolding catalogueOf recordsOf recordCount chunks
+  catalogue-alone =
+      ap (catalogueOf 3) (rules-alone ∙ sym (append-nil _))
+      ∙ catalogue-front (c .catalogue) [] (valid .catalogue .recordable) ∙ append-nil (c .catalogue)
+
+  catalogue-among : take (length (c .catalogue)) (catalogueOf 3 (fileOf c)) ≡ c .catalogue
+  unfolding fieldsOf
+  catalogue-among = rw (← bytes-of c) (catalogue-first (fieldsOf c) [] (valid .catalogue .recordable))
+
+  initial-bytes : valueAt ((layoutOf c) .initial) (fileOf c) ≡ numbersBytes (c .initial)
+  unfolding fieldsOf listed
+  initial-bytes = rw (← places-of c, ← bytes-of c) (initial-stands (fieldsOf c) [])
+
+  target-bytes : valueAt ((layoutOf c) .target) (fileOf c) ≡ numbersBytes (c .target)
+  unfolding fieldsOf listed
+  target-bytes = rw (← places-of c, ← bytes-of c) (target-stands (fieldsOf c) [])
+
+  keep-bytes : valueAt ((layoutOf c) .keep) (fileOf c) ≡ numbersBytes (listed (c .keep))
+  unfolding fieldsOf listed
+  keep-bytes = rw (← places-of c, ← bytes-of c) (keep-stands (fieldsOf c) [])
+
+  script-bytes : valueAt ((layoutOf c) .script) (fileOf c) ≡ elim (c .script) [ none ↦ [] | some script ↦ scriptBytes script ]
+  unfolding fieldsOf
+  script-bytes = rw (← places-of c, ← bytes-of c) (script-part-stands (fieldsOf c) [])
+
+  keep-there : (keep : Option (List ℕ)) → c .keep ≡ keep → IfThere (ListStands (fileOf c) ((layoutOf c) .keep)) keep
+  unfolding layoutOf spanIf spanFrom keepBytes listed
+  keep-there none e = tt
+  keep-there (some k) e =
+      let within : Keepable (c .initial) (c .target) (some k) = rw e at (valid .keep) in
+      a-list-stands (fileOf c) ((layoutOf c) .keep) k
+      (λ n t. omega (arith, valid .target .sound .inside n (sublist-in (within .1) n t), valid .catalogue .few))
+      (keep-bytes ∙ rw e) (rw e)
+
+  script-there : (script : Option Script) → c .script ≡ script → IfThere (ScriptStands (fileOf c) ((layoutOf c) .script)) script
+  unfolding layoutOf spanIf spanFrom commandBytes
+  script-there none e = tt
+  script-there (some s) e =
+      let right : Scripted s = rw e at (valid .script) in
+      a-script-stands (fileOf c) ((layoutOf c) .script) s right (script-bytes ∙ rw e) (rw e)
+
+  pub contents-stand : Stands (fileOf c) (layoutOf c) c
+  unfolding layoutOf spanFrom
+  contents-stand =
+      record {
+        valid = valid;
+        written = refl;
+        placed = refl;
+        count = refl;
+        catalogue = catalogue-alone;
+        among = catalogue-among;
+        initial =
+            a-list-stands (fileOf c) ((layoutOf c) .initial) (c .initial)
+            (λ n t. omega (arith, valid .initial .sound .inside n t, valid .catalogue .few)) initial-bytes refl;
+        target =
+            a-list-stands (fileOf c) ((layoutOf c) .target) (c .target)
+            (λ n t. omega (arith, valid .target .sound .inside n t, valid .catalogue .few)) target-bytes refl;
+        has-keep = refl;
+        keep = keep-there (c .keep) refl;
+        has-script = refl;
+        script = script-there (c .script) refl;
+      }
+
+-- The claims, of the definitions.
+pub accepted-file : AcceptedFile
+unfolding fileRead shown
+accepted-file file layout b e = go (readFile file) refl e
+  where
+    go : (reading : Reading) → readFile file ≡ reading → shown reading ≡ Accepted layout → (c : Contents) × Stands file layout c
+    go (refused refusal) h e = absurd (let z : _≡_ {A = ℕ} 0 1 = cc in omega arith)
+    go (accepted c) h e =
+        let right = written-again file c b h in
+        let same : layoutOf c ≡ layout = cc in
+        (c, rw (← same, ← right .1) (contents-stand c (right .0)))
+
+pub written-file : WrittenFile
+unfolding fileRead shown
+written-file c valid = rw (read-back c valid .1)
+
+pub refused-file : RefusedFile
+unfolding fileRead shown
+refused-file file refusal b = (
+  λ e. refusals file (refusal .why) (refusal .at) b .0 (go (readFile file) refl e),
+  λ h. rw (refusals file (refusal .why) (refusal .at) b .1 h),
+)
+  where
+    go : (reading : Reading) → readFile file ≡ reading → shown reading ≡ Refused refusal → readFile file ≡ refused refusal
+    go (accepted c) h e = absurd (let z : _≡_ {A = ℕ} 0 1 = cc in omega arith)
+    go (refused other) h e = let same : other ≡ refusal = cc in h ∙ ap refused same
+
+-- The claims, of `read`.
+pub accepted-file-is-written-again : (κ : _) (a : _) (layout : Layout) (e : _) → read.Post κ a (Accepted layout) e
+    → AreBytes (now (a .0)) → (c : Contents) × Stands (now (a .0)) layout c
+accepted-file-is-written-again κ a layout e p b = accepted-file (now (a .0)) layout b (sym p)
+
+pub written-file-is-accepted : (κ : _) (a : _) (r : FileRead) (e : _) → read.Post κ a r e
+    → (c : Contents) → Valid c → now (a .0) ≡ fileOf c → r ≡ Accepted (layoutOf c)
+written-file-is-accepted κ a r e p c valid is = p ∙ ap fileRead is ∙ written-file c valid
+
+pub refused-file-is-a-row : (κ : _) (a : _) (refusal : Refusal) (e : _) → read.Post κ a (Refused refusal) e
+    → AreBytes (now (a .0)) → TurnedAway (now (a .0)) (refusal .why) (refusal .at)
+refused-file-is-a-row κ a refusal e p b = refused-file (now (a .0)) refusal b .0 (sym p)

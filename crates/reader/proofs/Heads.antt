@@ -1,0 +1,129 @@
+-- The head of a field: the reader's tests against those of the definitions. The idea: what the reader knows is that of the fields
+-- read so far, so its tests are theirs. Assumes nothing.
+use Prim.Native.Nat.{ℕ, _+_, _-_, _≤_, _<_}
+use native.Mathlib.Omega.{arith}
+use mathlib.Core.Path.{_≡_, refl, sym, _∙_, ap}
+use mathlib.Core.Bool.{true, false, _&&_}
+use mathlib.Core.List.{List, [], _∷_}
+use lib.ListN.{length, drop, getD, length-drop}
+use lib.Seq.{drop-drop}
+use lib.Dec.{eqb, leb}
+use borrow.Author.Tests.{eqb-true, eqb-false, eq-eqb, ne-eqb, le-leb, lt-leb}
+use Rattle.policy.specs.Lists.{mem}
+use Rattle.policy.specs.Policy.{most-rules}
+use Rattle.policy.proofs.Tests.{byTest}
+use Rattle.deployment.specs.Bytes.{number, part}
+use Rattle.deployment.specs.File.{Fields, Field, nextTags, lengthFits, fieldRead, rule-tag}
+use Rattle.deployment.specs.Properties.{tagOf, sizeOf}
+use Rattle.deployment.specs.declared.Why.the-variants.{Cut, Tag, Length, TooMany}
+use Rattle.deployment.proofs.Bytes.{length-part}
+use Rattle.deployment.proofs.Records.{number-one, part-elements}
+use Rattle.deployment.proofs.Fields.{Stage, at-rules, at-initial, at-target, at-keep, at-script, stage}
+use Rattle.reader.specs.Steps.{lastTag, tagsAfter, layoutSoFar, progressOf, Begun, headShown}
+use Rattle.reader.specs.declared.file.Progress.{Progress}
+use Rattle.reader.specs.declared.file.Head.the-variants as head
+use Rattle.reader.specs.declared.Checking.the-variants.{Bad}
+
+pub eqb-swap : (a b : ℕ) → eqb a b ≡ eqb b a
+eqb-swap a b =
+    byTest (eqb a b) (λ t. t ∙ sym (eq-eqb b a (sym (eqb-true a b t))))
+    (λ f. f ∙ sym (ne-eqb b a (λ e. eqb-false a b f (sym e))))
+
+-- 2: tags that can stand next.
+pub only-tag : (tag x : ℕ) → eqb tag x ≡ mem tag (x ∷ [])
+unfolding mem
+only-tag tag x = eqb-swap tag x ∙ byTest (eqb x tag) (λ t. rw t) (λ f. rw f)
+
+pub first-tag : (tag x y : ℕ) → tag ≡ x → eqb tag x ≡ mem tag (x ∷ y ∷ [])
+unfolding mem
+first-tag tag x y e = eq-eqb tag x e ∙ rw (eq-eqb x tag (sym e))
+
+pub second-tag : (tag x y : ℕ) → (tag ≡ x → ⊥) → eqb tag y ≡ mem tag (x ∷ y ∷ [])
+unfolding mem
+second-tag tag x y n = only-tag tag y ∙ rw (ne-eqb x tag (λ e. n (sym e)))
+
+next-tags : {f : Fields} → Stage f → nextTags f ≡ tagsAfter (lastTag f)
+unfolding nextTags tagsAfter lastTag
+next-tags (at-rules c) = refl
+next-tags (at-initial c i) = refl
+next-tags (at-target c i t) = refl
+next-tags (at-keep c i t k) = refl
+next-tags (at-script c i t k s) = refl
+
+-- The head of a field, from the bytes at a position.
+module _ (file : List ℕ) (at : ℕ) (headed : 3 ≤ length file - at) where
+  tag-at : tagOf (drop at file) ≡ getD file at 0
+  unfolding part
+  tag-at = ap number (part-elements at 0 file (omega arith)) ∙ sym (number-one (getD file at 0))
+
+  size-at : sizeOf (drop at file) ≡ number (getD file (at + 1) 0 ∷ getD file (at + 2) 0 ∷ [])
+  unfolding part
+  size-at =
+      let further : at + 1 + 1 ≡ at + 2 = omega arith in
+      ap number (rw drop-drop (part-elements (at + 1) 1 file (omega arith) ∙ rw further))
+
+-- The tests of a head, in their order.
+module _ (file : List ℕ) (progress : Progress) (f : Fields) (b : Begun file progress f) where
+  same-last : lastTag f ≡ progress .last
+  unfolding progressOf
+  same-last = sym (ap (λ (p : Progress). p .last) (b .known))
+
+  pub same-count : length (f .catalogue) ≡ progress .layout .rules
+  unfolding progressOf layoutSoFar
+  same-count = sym (ap (λ (p : Progress). p .layout .rules) (b .known))
+
+  pub few-rules : progress .layout .rules ≤ most-rules
+  few-rules = omega (arith, same-count, b .readable .catalogue .few)
+
+  pub head-cut : length file - progress .at < 3 → head.Bad Cut ≡ headShown (fieldRead f (drop (progress .at) file))
+  unfolding fieldRead headShown
+  head-cut h = rw (lt-leb 3 (length (drop (progress .at) file)) (rw length-drop h))
+
+  module _ (headed : 3 ≤ length file - progress .at) where
+    headed-test : leb 3 (length (drop (progress .at) file)) ≡ true
+    headed-test = le-leb 3 (length (drop (progress .at) file)) (rw length-drop headed)
+
+    stands-test : mem (tagOf (drop (progress .at) file)) (nextTags f)
+        ≡ mem (getD file (progress .at) 0) (tagsAfter (progress .last))
+    stands-test = rw (tag-at file (progress .at) headed, next-tags (stage f (b .readable)), same-last)
+
+    pub head-tag : mem (getD file (progress .at) 0) (tagsAfter (progress .last)) ≡ false
+        → head.Bad Tag ≡ headShown (fieldRead f (drop (progress .at) file))
+    unfolding fieldRead headShown
+    head-tag e = rw (headed-test, stands-test, e)
+
+    module _ (stands : mem (getD file (progress .at) 0) (tagsAfter (progress .last)) ≡ true) where
+      pub head-too-many : (eqb (getD file (progress .at) 0) rule-tag && leb most-rules (progress .layout .rules)) ≡ true
+          → head.Bad TooMany ≡ headShown (fieldRead f (drop (progress .at) file))
+      unfolding fieldRead headShown
+      head-too-many e = rw (headed-test, stands-test, stands, tag-at file (progress .at) headed, same-count, e)
+
+      module _
+          (few : (eqb (getD file (progress .at) 0) rule-tag && leb most-rules (progress .layout .rules)) ≡ false)
+          (size : ℕ)
+          (is : size ≡ number (getD file (progress .at + 1) 0 ∷ getD file (progress .at + 2) 0 ∷ [])) where
+        same-size : sizeOf (drop (progress .at) file) ≡ size
+        same-size = size-at file (progress .at) headed ∙ sym is
+
+        pub head-length : lengthFits (getD file (progress .at) 0) size ≡ false
+            → head.Bad Length ≡ headShown (fieldRead f (drop (progress .at) file))
+        unfolding fieldRead headShown
+        head-length e = rw (headed-test, stands-test, stands, tag-at file (progress .at) headed, same-count, few, same-size, e)
+
+        module _ (fits : lengthFits (getD file (progress .at) 0) size ≡ true) where
+          pub head-short : length file - progress .at < 3 + size
+              → head.Bad Cut ≡ headShown (fieldRead f (drop (progress .at) file))
+          unfolding fieldRead headShown
+          head-short h =
+              let short = lt-leb (3 + size) (length (drop (progress .at) file)) (rw length-drop h) in
+              rw (headed-test, stands-test, stands, tag-at file (progress .at) headed, same-count, few, same-size, fits, short)
+
+          pub head-whole : 3 + size ≤ length file - progress .at
+              → head.Field (getD file (progress .at) 0) size ≡ headShown (fieldRead f (drop (progress .at) file))
+          unfolding fieldRead headShown
+          head-whole h =
+              let left = drop (progress .at) file in
+              let long : 3 + size ≤ length left = rw length-drop h in
+              let whole = le-leb (3 + size) (length left) long in
+              rw (headed-test, stands-test, stands, tag-at file (progress .at) headed, same-count, few, same-size, fits, whole)
+              (rw (length-part 3 size left long))

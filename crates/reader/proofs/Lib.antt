@@ -1,0 +1,13 @@
+pub mod SideBySide
+pub mod Policies
+pub mod Scripts
+pub mod Rules
+pub mod Catalogue
+pub mod Given
+pub mod Places
+pub mod Heads
+pub mod Checks
+pub mod OneMore
+pub mod Reading
+pub mod Answers
+pub mod FileAnswers

@@ -1,0 +1,97 @@
+-- `read` meets its contract. The loop's invariant: some fields have been read from the file's first bytes, and the progress is what
+-- the reader knows of them. The measure is what is left of the file. Assumes nothing.
+use Prim.Native.Nat.{ℕ, _-_, _<_}
+use native.Mathlib.Omega.{arith}
+use mathlib.Core.Path.{sym, _∙_}
+use mathlib.Core.List.{List}
+use lib.ListN.{length}
+use borrow.Author.Needs.{needs}
+use Rattle.deployment.specs.Bytes.{joined}
+use Rattle.deployment.specs.File.{Fields, nothing, ifThere}
+use Rattle.deployment.specs.Properties.{AreBytes, fieldsBytes}
+use Rattle.deployment.proofs.Bytes.{elements-are-bytes}
+use Rattle.reader.specs.Answers.{keepBytes, commandBytes, spanIf, absent, endOf, there}
+use Rattle.reader.specs.Steps.{Begun, lastTag, layoutSoFar, progressOf}
+use Rattle.reader.specs.declared.file.Progress.{Progress}
+use Rattle.reader.proofs.Reading.{begun-at-start, begun-again, turned-away, ended-right}
+use Rattle.reader.proofs.file.read.Statement.{statement}
+use Rattle.reader.proofs.file.read.Tie as tie
+
+abbrev Inv-loop : tie.InvT-loop
+Inv-loop file progress₀ progress = (f : Fields) × Begun file progress f
+
+abbrev μ-loop : tie.MeasureT-loop
+μ-loop file progress₀ progress = length file - progress .at
+
+loop-holds : tie.Need-loop-holds Inv-loop μ-loop
+unfolding nothing progressOf lastTag layoutSoFar keepBytes commandBytes spanIf absent endOf there fieldsBytes ifThere joined
+loop-holds c = (nothing, begun-at-start (c .before .args .file .now))
+
+next-field-requires : tie.Need-next-field-requires Inv-loop μ-loop
+next-field-requires c κs = (c .if1 .taken, c .before .before .loop .inv)
+
+enum-known-next : tie.Need-enum-known-next Inv-loop μ-loop
+enum-known-next c = search needs
+
+-- where a field was read: the file, that it is bytes, and what was known before
+abbrev file : tie.After-next-field Inv-loop μ-loop → List ℕ
+file c = c .before .before .before .before .before .args .file .now
+
+bytes : (c : tie.After-next-field Inv-loop μ-loop) → AreBytes (file c)
+bytes c = elements-are-bytes (file c) (λ i. omega (arith, c .before .before .before .before .shared-slice-known .given i))
+
+abbrev before : tie.After-next-field Inv-loop μ-loop → Progress
+before c = c .before .before .before .loop .progress
+
+-- it is one field more, and the position has grown
+again : (c : tie.After-known-told Inv-loop μ-loop)
+    → let at = c .before .before .before in
+    let next = c .before .next .given .0 .0 in
+    (g : Fields) × Begun (file at) next g × (before at .at < next .at)
+again c =
+    let at = c .before .before .before in
+    let inv = at .before .before .before .loop .inv in
+    begun-again (file at) (before at) (inv .0) (inv .1) (at .before .if1 .taken) (bytes at) _
+    (sym (c .before .next .given .1) ∙ at .next-field .ensures (inv .0) (inv .1))
+
+loop-less : tie.Need-loop-less Inv-loop μ-loop
+loop-less c = omega (arith, again c .2, c .before .before .before .before .if1 .taken)
+
+loop-again : tie.Need-loop-again Inv-loop μ-loop
+loop-again c = let more = again c in (more .0, more .1)
+
+enum-known-next-2 : tie.Need-enum-known-next-2 Inv-loop μ-loop
+enum-known-next-2 c = search needs
+
+returns : tie.Need-returns Inv-loop μ-loop
+returns c =
+    let at = c .before .before .before in
+    let inv = at .before .before .before .loop .inv in
+    turned-away (file at) (before at) (inv .0) (inv .1) (at .before .if1 .taken) (bytes at) _
+    (sym (c .before .next2 .given .1) ∙ at .next-field .ensures (inv .0) (inv .1))
+
+ended-requires : tie.Need-ended-requires Inv-loop μ-loop
+ended-requires c κs = search needs
+
+returns-2 : tie.Need-returns-2 Inv-loop μ-loop
+returns-2 c =
+    let loop = c .before .before .before .loop in
+    let inv = loop .inv in
+    c .ended .ensures (inv .0) (inv .1 .readable) (inv .1 .known)
+    ∙ ended-right (c .before .before .before .before .before .args .file .now) (loop .progress) (inv .0) (inv .1) (c .before .if1 .left)
+
+pub read-spec : {M : Type 1} → statement M
+read-spec =
+    tie.close
+    (tie.spec
+    Inv-loop
+    μ-loop
+    loop-holds
+    next-field-requires
+    enum-known-next
+    loop-less
+    loop-again
+    enum-known-next-2
+    returns
+    ended-requires
+    returns-2)

@@ -1,0 +1,104 @@
+-- The reader's answers: whether values are turned away and why, and where the values of an accepted file stand. Assumes nothing.
+use Prim.Native.Nat.{ℕ, _+_, _*_}
+use mathlib.Core.Bool.{Bool, true, false, cond}
+use mathlib.Core.List.{List}
+use mathlib.Core.Option.{Option, none, some}
+use lib.ListN.{length}
+use lib.Dec.{eqb}
+use Rattle.policy.specs.Rule.{Rule}
+use Rattle.deployment.specs.Checked.{Checked, good, bad, _>>_, require}
+use Rattle.deployment.specs.Bytes.{part}
+use Rattle.deployment.specs.Values.{Script, rule-bytes, numbersBytes, scriptBytes}
+use Rattle.deployment.specs.Contents.{Contents, ruleRead}
+use Rattle.deployment.specs.FieldValues.{FieldValues}
+use Rattle.deployment.specs.File.{Reading, accepted, refused, readFile, head-bytes}
+use Rattle.deployment.specs.declared.Why.the-variants.{Length}
+use Rattle.reader.specs.declared.Checking.{Checking}
+use Rattle.reader.specs.declared.Checking.the-variants.{Good, Bad}
+use Rattle.reader.specs.declared.Span.{Span}
+use Rattle.reader.specs.declared.Layout.{Layout}
+use Rattle.reader.specs.declared.FileRead.{FileRead}
+use Rattle.reader.specs.declared.FileRead.the-variants.{Accepted, Refused}
+
+-- whether tests pass, and why not
+unfoldable pub checking : {A : Type 0} → Checked A → Checking
+checking (good a) = Good
+checking (bad why) = Bad why
+
+-- a rule as a field value: 4, then 5, 6
+unfoldable pub ruleValue : List Rule → List ℕ → Checked Rule
+ruleValue catalogue value = do
+  require (eqb (length value) rule-bytes) Length
+  ruleRead catalogue value
+
+-- "Entries that take lists take field values, and are told whether a keep list is absent or empty", and so for the script
+unfoldable pub given : Bool → List ℕ → Option (List ℕ)
+given is value = cond is (some value) none
+
+unfoldable pub valuesGiven : List ℕ → List ℕ → List ℕ → Bool → List ℕ → Bool → List ℕ → FieldValues
+valuesGiven rules initial target has-keep keep has-script script =
+    record {
+      rules = rules;
+      initial = initial;
+      target = target;
+      keep = given has-keep keep;
+      script = given has-script script;
+    }
+
+-- "the part of the file that is its value"
+unfoldable pub valueAt : Span → List ℕ → List ℕ
+valueAt span file = part (span .start) (span .size) file
+
+-- the value of a field that follows the given end, behind the field's head
+unfoldable pub spanFrom : ℕ → List ℕ → Span
+spanFrom end value = record { start = end + head-bytes; size = length value }
+
+-- a value that isn't there
+unfoldable pub absent : Span
+absent = record { start = 0; size = 0 }
+
+unfoldable pub spanIf : ℕ → Option (List ℕ) → Span
+spanIf end none = absent
+spanIf end (some value) = spanFrom end value
+
+unfoldable pub endOf : ℕ → Option (List ℕ) → ℕ
+endOf end none = end
+endOf end (some value) = end + (head-bytes + length value)
+
+unfoldable pub there : {A : Type 0} → Option A → Bool
+there none = false
+there (some a) = true
+
+unfoldable pub keepBytes : Option (List ℕ) → Option (List ℕ)
+keepBytes none = none
+keepBytes (some keep) = some (numbersBytes keep)
+
+unfoldable pub commandBytes : Option Script → Option (List ℕ)
+commandBytes none = none
+commandBytes (some script) = some (scriptBytes script)
+
+-- Where the values stand: the rules from the start on, thirty bytes a field, then one field after another.
+unfoldable pub layoutOf : Contents → Layout
+layoutOf c =
+    let rules-end = length (c .catalogue) * (head-bytes + rule-bytes) in
+    let initial-end = endOf rules-end (some (numbersBytes (c .initial))) in
+    let target-end = endOf initial-end (some (numbersBytes (c .target))) in
+    let keep-end = endOf target-end (keepBytes (c .keep)) in
+    record {
+      rules = length (c .catalogue);
+      initial = spanFrom rules-end (numbersBytes (c .initial));
+      target = spanFrom initial-end (numbersBytes (c .target));
+      «has_keep» = there (c .keep);
+      keep = spanIf target-end (keepBytes (c .keep));
+      «has_script» = there (c .script);
+      script = spanIf keep-end (commandBytes (c .script));
+    }
+
+-- a reading as the reader shows it: contents by the places of their values
+unfoldable pub shown : Reading → FileRead
+shown (accepted c) = Accepted (layoutOf c)
+shown (refused refusal) = Refused refusal
+
+-- the whole answer to a file
+unfoldable pub fileRead : List ℕ → FileRead
+fileRead file = shown (readFile file)

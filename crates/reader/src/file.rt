@@ -1,0 +1,263 @@
+// The deployment file: its fields read left to right.
+
+ghost use mathlib.Core.Path.{_≡_};
+ghost use Prim.Native.Nat.{ℕ, _<_, _≤_};
+ghost use mathlib.Core.Bool.{_&&_};
+ghost use mathlib.Core.List.{List};
+ghost use lib.ListN.{length, drop};
+ghost use lib.Dec.{eqb, leb};
+ghost use Rattle.policy.specs.Lists.{mem};
+ghost use Rattle.policy.specs.Policy.{most-rules};
+ghost use Rattle.deployment.specs.Checked.{good};
+ghost use Rattle.deployment.specs.File.{Fields, rule-tag, fieldRead, lengthFits, withField, atEnd};
+ghost use Rattle.deployment.specs.Properties.{Readable, fieldsBytes};
+ghost use Rattle.reader.specs.Answers.{valueAt, spanFrom, checking, shown, fileRead};
+ghost use Rattle.reader.specs.Steps.{tagsAfter, More, Begun, layoutSoFar, progressOf, headShown, stepFrom};
+use super::Checking;
+use super::FileRead;
+use super::Layout;
+use super::Span;
+use super::values::MOST_RULES;
+use super::values::RULE_BYTES;
+use super::values::keep_checked;
+use super::values::list_fits;
+use super::values::policy_checked;
+use super::values::rule_checked;
+use super::values::script_checked;
+use super::values::script_fits;
+use deployment::Refusal;
+use deployment::Why;
+use deployment::two;
+
+// The tags: "01 a rule, 02 initial policy, 03 target policy, 04 keep list, 05 script".
+pub const RULE_TAG: u8 = 1;
+
+pub const INITIAL_TAG: u8 = 2;
+
+pub const TARGET_TAG: u8 = 3;
+
+pub const KEEP_TAG: u8 = 4;
+
+pub const SCRIPT_TAG: u8 = 5;
+
+// "a one-byte tag, a two-byte length"
+pub const HEAD_BYTES: usize = 3;
+
+// A field's head, or why the field is turned away.
+enum Head {
+    Field(u8, usize),
+    Bad(Why),
+}
+
+// What has been read: the position, the tag of the last field (that of a rule at the start), and where the values stand.
+struct Progress {
+    at: usize,
+    last: u8,
+    layout: Layout,
+}
+
+// One field: what has been read then, or why it is turned away.
+enum Step {
+    Next(Progress),
+    Bad(Why),
+}
+
+// "the part of the file that is its value"; nothing where the file is shorter.
+pub fn value<'a>(file: &'a [u8], span: Span) -> &'a [u8]
+    ensures { λ v. ⌜ now v ≡ valueAt span (now (file .entry)) ⌝ }
+{
+    let start = span.start;
+    let size = span.size;
+    let len = file.len();
+    if len <= start {
+        return &file[len..len];
+    }
+    if len - start < size {
+        return &file[start..len];
+    }
+    let end = start + size;
+    &file[start..end]
+}
+
+// 2: whether a tag can stand after the last one.
+fn can_stand(last: u8, tag: u8) -> bool
+    ensures { λ r. ⌜ r ≡ mem tag (tagsAfter last) ⌝ }
+{
+    match last {
+        RULE_TAG => tag == RULE_TAG || tag == INITIAL_TAG,
+        INITIAL_TAG => tag == TARGET_TAG,
+        TARGET_TAG => tag == KEEP_TAG || tag == SCRIPT_TAG,
+        KEEP_TAG => tag == SCRIPT_TAG,
+        _ => false,
+    }
+}
+
+// 4: whether a field of this tag can have this length.
+fn length_fits(tag: u8, size: usize) -> bool
+    ensures { λ r. ⌜ r ≡ lengthFits tag size ⌝ }
+{
+    if tag == RULE_TAG {
+        return size == RULE_BYTES;
+    }
+    if tag == SCRIPT_TAG {
+        return script_fits(size);
+    }
+    list_fits(size)
+}
+
+// 7: "a 1,025th rule"
+fn one_too_many(tag: u8, rules: usize) -> bool
+    ensures { λ r. ⌜ r ≡ (eqb tag rule-tag && leb most-rules rules) ⌝ }
+{
+    tag == RULE_TAG && MOST_RULES <= rules
+}
+
+// The head of the next field: 1 for the head, 2, 7, 4, 1 for the value.
+fn field_head(file: &[u8], progress: Progress) -> Head
+    requires { ⌜ progress .at < length (now file) ⌝ }
+    ensures { λ h. ⌜ ((f : Fields) → Begun (now (file .entry)) progress f → h ≡ headShown (fieldRead f (drop (progress .at) (now (file .entry))))) ⌝ }
+{
+    let at = progress.at;
+    let left = file.len() - at;
+    if left < HEAD_BYTES {
+        return Head::Bad(Why::Cut);
+    }
+    let tag = file[at];
+    if !can_stand(progress.last, tag) {
+        return Head::Bad(Why::Tag);
+    }
+    if one_too_many(tag, progress.layout.rules) {
+        return Head::Bad(Why::TooMany);
+    }
+    let size = two(file[at + 1], file[at + 2]) as usize;
+    if !length_fits(tag, size) {
+        return Head::Bad(Why::Length);
+    }
+    if left < HEAD_BYTES + size {
+        return Head::Bad(Why::Cut);
+    }
+    Head::Field(tag, size)
+}
+
+// The tests of a value, by its tag: 5, 6; or 8, 9; or 10; or 11.
+fn checked(file: &[u8], progress: Progress, tag: u8, bytes: &[u8]) -> Checking
+    ensures { λ c.
+        ⌜ ((f : Fields) → Begun (now (file .entry)) progress f
+        → fieldRead f (drop (progress .at) (now (file .entry))) ≡ good (record { tag = tag; value = now (bytes .entry) })
+        → c ≡ checking (withField f (record { tag = tag; value = now (bytes .entry) }))) ⌝ }
+{
+    let layout = progress.layout;
+    if tag == RULE_TAG {
+        return rule_checked(file, HEAD_BYTES as u8, layout.rules, bytes);
+    }
+    if tag == INITIAL_TAG || tag == TARGET_TAG {
+        return policy_checked(bytes, layout.rules);
+    }
+    if tag == KEEP_TAG {
+        return keep_checked(
+            bytes,
+            value(file, layout.initial),
+            value(file, layout.target),
+        );
+    }
+    script_checked(bytes)
+}
+
+// The places with that of one more value.
+fn placed(layout: Layout, tag: u8, span: Span) -> Layout
+    requires { ⌜ layout .rules ≤ most-rules ⌝ }
+    ensures { λ l.
+        ⌜ ((f g : Fields) (value : List ℕ) → More f tag value g → layout ≡ layoutSoFar f → span ≡ spanFrom (length (fieldsBytes f)) value
+        → l ≡ layoutSoFar g) ⌝ }
+{
+    let mut next = layout;
+    if tag == RULE_TAG {
+        next.rules = layout.rules + 1;
+    } else if tag == INITIAL_TAG {
+        next.initial = span;
+    } else if tag == TARGET_TAG {
+        next.target = span;
+    } else if tag == KEEP_TAG {
+        next.has_keep = true;
+        next.keep = span;
+    } else {
+        next.has_script = true;
+        next.script = span;
+    }
+    next
+}
+
+// The next field: its head, then its value.
+fn next_field(file: &[u8], progress: Progress) -> Step
+    requires { ⌜ (progress .at < length (now file)) × ((f : Fields) × Begun (now file) progress f) ⌝ }
+    ensures { λ s. ⌜ ((f : Fields) → Begun (now (file .entry)) progress f → s ≡ stepFrom f (drop (progress .at) (now (file .entry)))) ⌝ }
+{
+    let found = field_head(file, progress);
+    match found {
+        Head::Bad(why) => Step::Bad(why),
+        Head::Field(tag, size) => {
+            let start = progress.at + HEAD_BYTES;
+            let span = Span { start, size };
+            let c = checked(file, progress, tag, value(file, span));
+            match c {
+                Checking::Bad(why) => Step::Bad(why),
+                Checking::Good => {
+                    let layout = placed(progress.layout, tag, span);
+                    Step::Next(Progress {
+                        at: start + size,
+                        last: tag,
+                        layout,
+                    })
+                }
+            }
+        }
+    }
+}
+
+// 3: "the file ends before a target policy", at the file's length.
+fn ended(progress: Progress) -> FileRead
+    ensures { λ r. ⌜ ((f : Fields) → Readable f → progress ≡ progressOf f → r ≡ shown (atEnd f (progress .at))) ⌝ }
+{
+    let end = progress.at;
+    if progress.last < TARGET_TAG {
+        return FileRead::Refused(Refusal {
+            why: Why::NoTarget,
+            at: end,
+        });
+    }
+    let layout = progress.layout;
+    FileRead::Accepted(layout)
+}
+
+// "Fields are tested left to right."
+pub fn read(file: &[u8]) -> FileRead
+    ensures { λ r. ⌜ r ≡ fileRead (now (file .entry)) ⌝ }
+{
+    let nowhere = Span { start: 0, size: 0 };
+    let mut progress = Progress {
+        at: 0,
+        last: RULE_TAG,
+        layout: Layout {
+            rules: 0,
+            initial: nowhere,
+            target: nowhere,
+            has_keep: false,
+            keep: nowhere,
+            has_script: false,
+            script: nowhere,
+        },
+    };
+    while progress.at < file.len() {
+        let at = progress.at;
+        let next = next_field(file, progress);
+        match next {
+            Step::Next(more) => {
+                progress = more;
+            }
+            Step::Bad(why) => {
+                return FileRead::Refused(Refusal { why, at });
+            }
+        }
+    }
+    ended(progress)
+}

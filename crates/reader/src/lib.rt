@@ -1,0 +1,37 @@
+// The reader: tests of field values (values.rt), and the deployment file read into the places of its values (file.rt). Nothing is copied.
+
+use deployment::Refusal;
+use deployment::Why;
+
+pub mod file;
+pub mod lists;
+pub mod values;
+
+// Whether a value passes its tests.
+pub enum Checking {
+    Good,
+    Bad(Why),
+}
+
+// A part of a file.
+pub struct Span {
+    pub start: usize,
+    pub size: usize,
+}
+
+// Where the values of an accepted file stand. The rules stand first, each behind its field's head of three bytes.
+pub struct Layout {
+    pub rules: usize,
+    pub initial: Span,
+    pub target: Span,
+    pub has_keep: bool,
+    pub keep: Span,
+    pub has_script: bool,
+    pub script: Span,
+}
+
+// What is read of a file.
+pub enum FileRead {
+    Accepted(Layout),
+    Refused(Refusal),
+}
