@@ -262,13 +262,13 @@ refusals file why at b = (
 )
 
 -- Refusal 12 is none of the reader's: the numbers of those are below it.
-abbrev Below : Why → Type 0
+abbrev pub Below : Why → Type 0
 Below why = whyNumber why < 12
 
-abbrev AllBelow : {A : Type 0} → Checked A → Type 0
+abbrev pub AllBelow : {A : Type 0} → Checked A → Type 0
 AllBelow = Each (λ a. Unit {0}) Below
 
-below-then : {A B : Type 0} (read : Checked A) (next : A → Checked B) → AllBelow read → ((a : A) → AllBelow (next a))
+pub below-then : {A B : Type 0} (read : Checked A) (next : A → Checked B) → AllBelow read → ((a : A) → AllBelow (next a))
     → AllBelow (_>>=_ read next)
 below-then read next h others = each-then (λ a. Unit {0}) (λ b. Unit {0}) Below read next h (λ a t. others a)
 
@@ -281,19 +281,19 @@ head-below f left =
     tested AllBelow (lengthFits (tagOf left) (sizeOf left)) (λ e. omega arith) λ e.
     tested AllBelow (leb (head-bytes + sizeOf left) (length left)) (λ e. omega arith) λ e. tt
 
-rule-below : (c : List Rule) (value : List ℕ) → AllBelow (ruleRead c value)
+pub rule-below : (c : List Rule) (value : List ℕ) → AllBelow (ruleRead c value)
 unfolding whyNumber
 rule-below c value = rule-tested AllBelow c value (λ h. omega arith) (λ h k. omega arith) (λ h k. tt)
 
-policy-below : (size : ℕ) (value : List ℕ) → AllBelow (policyRead size value)
+pub policy-below : (size : ℕ) (value : List ℕ) → AllBelow (policyRead size value)
 unfolding whyNumber
 policy-below size value = policy-tested AllBelow size value (λ h. omega arith) (λ h k. omega arith) (λ h. tt)
 
-keep-below : (i t value : List ℕ) → AllBelow (keepRead i t value)
+pub keep-below : (i t value : List ℕ) → AllBelow (keepRead i t value)
 unfolding whyNumber
 keep-below i t value = keep-tested AllBelow i t value (λ h. omega arith) (λ h k. tt)
 
-script-below : (value : List ℕ) → AllBelow (scriptRead value)
+pub script-below : (value : List ℕ) → AllBelow (scriptRead value)
 unfolding whyNumber
 script-below value = script-tested AllBelow value (λ h. omega arith) (λ s h. tt)
 

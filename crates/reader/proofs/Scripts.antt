@@ -56,12 +56,12 @@ abbrev pub readFrom : ℕ → List ℕ → Bool
 readFrom k value = there (everyCommand (number (part 0 1 value)) (drop k (commandChunks value)))
 
 module _ (value : List ℕ) (k : ℕ) where
-  chunk-count : length (commandChunks value) ≡ commandCount value
+  pub chunk-count : length (commandChunks value) ≡ commandCount value
   unfolding commandChunks commandCount
   chunk-count = length-chunks 5 (commandCount value) (drop 1 value)
 
   module _ (inside : k < commandCount value) where
-    chunk-command : commandAt value k ≡ commandFrom (number (part 0 1 value)) (codedOf (getD (commandChunks value) k []))
+    pub chunk-command : commandAt value k ≡ commandFrom (number (part 0 1 value)) (codedOf (getD (commandChunks value) k []))
     unfolding commandAt commandChunks commandCount part
     chunk-command =
         rw (lt-ltb k (commandCount value) inside, chunk-at 5 (commandCount value) (drop 1 value) k inside, drop-drop, mul-comm k 5)

@@ -1,48 +1,22 @@
 -- The commands of a script that is read, one by one: the k-th is what the bytes decode to. And the loop over them: the replay of the whole script
 -- is, all the time, that of the commands that are left, from the list so far. Assumes nothing.
 use Prim.Native.Nat.{ℕ, zero, suc, _+_, _≤_, _<_}
-use native.Mathlib.Nat.{mul-comm}
 use native.Mathlib.Numerals.{add-one}
 use native.Mathlib.Omega.{arith}
 use mathlib.Core.Path.{_≡_, refl, sym, _∙_, ap}
 use mathlib.Core.List.{List, [], _∷_}
-use mathlib.Core.Option.{Option, none, some}
-use borrow.Author.Tests.{lt-ltb}
+use mathlib.Core.Option.{some}
 use lib.ListN.{length, drop, getD, drop-of-length-le}
-use lib.Seq.{drop-drop}
 use Rattle.policy.specs.Command.{passed, failed, step}
 use Rattle.policy.specs.Replay.{Replayed, ended, broken, replayFrom}
 use Rattle.policy.specs.declared.Command.{Command}
 use Rattle.policy.specs.declared.Fault.{Fault}
-use Rattle.deployment.specs.Bytes.{number, part}
 use Rattle.deployment.specs.Values.{Script, commandFrom, codedOf, everyCommand, commandChunks, scriptOf}
 use Rattle.deployment.specs.Commands.{commandCount, commandAt, decoded}
 use Rattle.deployment.specs.declared.Decoded.the-variants.{Is, Wrong}
-use Rattle.deployment.proofs.Bytes.{length-chunks}
-use Rattle.deployment.proofs.Records.{chunk-at}
 use Rattle.deployment.proofs.Values.{byOption, none-some, script-of}
+use Rattle.reader.proofs.Scripts.{decoded-is, decoded-wrong, chunk-count, chunk-command}
 use Rattle.replay.specs.Answers.{commandsOf, Readable}
-
-decoded-is : (o : Option Command) (c : Command) → Is c ≡ decoded o → o ≡ some c
-unfolding decoded
-decoded-is none c e = absurd (let z : _≡_ {A = ℕ} 0 1 = cc in omega arith)
-decoded-is (some d) c e = let same : d ≡ c = cc in ap some same
-
-decoded-wrong : (o : Option Command) → Wrong ≡ decoded o → o ≡ none
-unfolding decoded
-decoded-wrong none e = refl
-decoded-wrong (some d) e = absurd (let z : _≡_ {A = ℕ} 0 1 = cc in omega arith)
-
-module _ (value : List ℕ) where
-  chunk-count : length (commandChunks value) ≡ commandCount value
-  unfolding commandChunks commandCount
-  chunk-count = length-chunks 5 (commandCount value) (drop 1 value)
-
-  chunk-command : (k : ℕ) → k < commandCount value
-      → commandAt value k ≡ commandFrom (number (part 0 1 value)) (codedOf (getD (commandChunks value) k []))
-  unfolding commandAt commandChunks commandCount part
-  chunk-command k h =
-      rw (lt-ltb k (commandCount value) h, chunk-at 5 (commandCount value) (drop 1 value) k h, drop-drop, mul-comm k 5)
 
 -- Pieces that are all read: as many commands as pieces, the k-th from the k-th.
 first-read : (type : ℕ) (piece : List ℕ) (pieces : List (List ℕ)) (commands : List Command) → everyCommand type (piece ∷ pieces) ≡ some commands
@@ -82,7 +56,7 @@ module _ (value : List ℕ) (readable : Readable value) where
   script-count =
       let (script, read) = readable in
       let (known, typed, every) = script-of value script read in
-      rw read (every-count (script .type) (commandChunks value) (script .commands) every ∙ chunk-count value)
+      rw read (every-count (script .type) (commandChunks value) (script .commands) every ∙ chunk-count value 0)
 
   -- the k-th command, and the rest of the script
   command-next : (k : ℕ) → k < commandCount value
@@ -91,7 +65,7 @@ module _ (value : List ℕ) (readable : Readable value) where
   command-next k h =
       let (script, read) = readable in
       let (known, typed, every) = script-of value script read in
-      let (c, is, rest) = every-at (script .type) (commandChunks value) (script .commands) k every (rw chunk-count h) in
+      let (c, is, rest) = every-at (script .type) (commandChunks value) (script .commands) k every (rw (chunk-count value k) h) in
       (c, chunk-command value k h ∙ rw (← typed) is, rw read rest)
 
   -- a command that can't be read isn't met

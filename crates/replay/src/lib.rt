@@ -5,18 +5,22 @@ ghost use Prim.Native.Nat.{ℕ, _-_};
 ghost use lib.ListN.{replicate};
 ghost use Rattle.policy.specs.Command.{ruleAt};
 ghost use Rattle.policy.specs.declared.Command.the-variants.{App, DelRule, Ins, DelPlace, Mov};
+ghost use Rattle.policy.specs.Replay.{replay};
 ghost use Rattle.running.specs.Running.{view, shown};
 ghost use Rattle.running.specs.Places.{renumbered};
-ghost use Rattle.policy.specs.Replay.{replay};
 ghost use Rattle.deployment.specs.Values.{scriptOf};
 ghost use Rattle.replay.specs.Stepping.{stepLeft, leftBy, settled, Sound};
-ghost use Rattle.replay.specs.Answers.{shownBy, stopped, outcomeOf, commandsOf, Readable};
+ghost use Rattle.replay.specs.Answers.{shownBy, stopped, outcomeOf, commandsOf, Readable, replayed};
 use deployment::Decoded;
 use deployment::Why;
 use deployment::command_at;
 use deployment::commands;
 use policy::Command;
 use policy::Fault;
+use reader::Checking;
+use reader::values::list_of;
+use reader::values::policy_checked;
+use reader::values::script_checked;
 use running::Edited;
 use running::Places;
 use running::Refusing;
@@ -171,7 +175,7 @@ fn stop(ending: Ending) -> Replayed
     Replayed { list, ending }
 }
 
-// The commands of a script value one after another; the first is step 1.
+// The commands of a script value one after another; the first is step 1. Each decodes, since the script is readable.
 fn run(start: Replaying, size: usize, script: &[u8]) -> Replayed
     requires { ⌜ Sound size (view (start .list)) (start .places .of) × Readable (now script) ⌝ }
     ensures { λ r. ⌜ shownBy r ≡ outcomeOf (replay size (view (start .list)) (commandsOf (scriptOf (now (script .entry))))) ⌝ }
@@ -199,4 +203,21 @@ fn run(start: Replaying, size: usize, script: &[u8]) -> Replayed
         list,
         ending: Ending::Ended,
     }
+}
+
+// Replays a script value from a policy value, for a catalogue of `size` rules.
+pub fn replay(size: usize, initial: &[u8], script: &[u8]) -> Replayed
+    ensures { λ r. ⌜ shownBy r ≡ replayed size (now (initial .entry)) (now (script .entry)) ⌝ }
+{
+    let list = list_of(initial);
+    let c = policy_checked(initial, size);
+    if let Checking::Bad(why) = c {
+        return stop(Ending::Turned(why));
+    }
+    let d = script_checked(script);
+    if let Checking::Bad(why) = d {
+        return stop(Ending::Turned(why));
+    }
+    let top = if size < 1024 { size } else { 1024 };
+    run(Replaying::start(list), top, script)
 }

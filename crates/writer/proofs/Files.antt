@@ -1,16 +1,15 @@
 -- The file of field values: where they are accepted, the file of their contents is a field for each rule and each value that is
 -- there. So the bytes needed are the fields' lengths, and what is put field by field is the file. Assumes nothing.
-use Prim.Native.Nat.{ℕ, _+_, _*_, _/_, _≤_, _<_}
+use Prim.Native.Nat.{ℕ, _*_, _/_, _≤_, _<_}
 use native.Mathlib.Omega.{arith}
-use mathlib.Core.Path.{_≡_, refl, sym, _∙_, ap}
-use mathlib.Core.Bool.{Bool, true, false, cond}
+use mathlib.Core.Path.{_≡_, refl, sym, ap}
+use mathlib.Core.Bool.{Bool, true, false}
 use mathlib.Core.List.{List, [], _∷_, _++_, map, append-assoc, List·Memᴰ, Memᴰ·of-map}
 use mathlib.Core.Option.{Option, none, some}
 use borrow.Author.Tests.{le-leb, lt-leb}
-use lib.Dec.{leb}
-use lib.ListN.{length, length-append, length-map}
+use lib.ListN.{length, length-append}
 use Rattle.policy.specs.Rule.{Rule}
-use Rattle.deployment.specs.Bytes.{chunks, joined}
+use Rattle.deployment.specs.Bytes.{joined}
 use Rattle.deployment.specs.Values.{ruleBytes, numbersBytes, scriptBytes}
 use Rattle.deployment.specs.Contents.{Contents}
 use Rattle.deployment.specs.File.{
@@ -25,7 +24,7 @@ use Rattle.deployment.specs.File.{
   ifThere,
   fileOf,
 }
-use Rattle.deployment.specs.FieldValues.{FieldValues, Writing, unwritten, writing, filled, valuesRead, atZero, readValues}
+use Rattle.deployment.specs.FieldValues.{FieldValues, unwritten, writing, valuesRead, atZero, readValues}
 use Rattle.deployment.specs.Properties.{AreBytes, IfThere}
 use Rattle.deployment.specs.Claims.{valuesOf, AreValues}
 use Rattle.deployment.specs.declared.Why.{Why}
@@ -37,9 +36,9 @@ use Rattle.deployment.proofs.ReadBack.{length-field, valid-fits}
 use Rattle.reader.specs.Answers.{checking, given, valuesGiven}
 use Rattle.reader.specs.declared.Checking.the-variants.{Good, Bad}
 use Rattle.reader.proofs.Given.{passed, failed}
-use Rattle.writer.specs.Answers.{writtenValues, answerOf, leftBy, rulesBytes, fieldIf, bytesIf, needed}
+use Rattle.writer.specs.Answers.{writtenValues, answerOf, leftBy, Stored, rulesBytes, fieldIf, needed}
 use Rattle.writer.specs.declared.Written.the-variants.{Bytes, Turned}
-use Rattle.writer.proofs.Pieces.{Put, put-fills, length-rules}
+use Rattle.writer.proofs.Pieces.{stored-fills, length-if, length-all-rules}
 
 -- The fields of contents, from their field values.
 rules-file : (catalogue : List Rule) (rules : List ℕ) → joined (map ruleBytes catalogue) ≡ rules
@@ -63,11 +62,6 @@ there-file tag written none false value e = refl
 there-file tag written none true value e = none-some e
 there-file tag written (some a) false value e = none-some (sym e)
 there-file tag written (some a) true value e = let same : written a ≡ value = cc in rw same
-
-pub length-if : (there : Bool) (tag : ℕ) (value : List ℕ) → length (fieldIf there tag value) ≡ bytesIf there (length value)
-unfolding fieldIf bytesIf
-length-if true tag value = length-field tag value
-length-if false tag value = refl
 
 -- Bytes that may be absent.
 given-bytes : (there : Bool) (value : List ℕ) → AreBytes value → IfThere AreBytes (given there value)
@@ -103,7 +97,7 @@ module _ (lent : Lent) where
 
   pub length-fields : length fields ≡ size
   length-fields =
-      simp (length-append, length-field, length-if) (omega (arith, length-rules (length (lent .rules) / 27) (lent .rules) (omega arith)))
+      simp (length-append, length-field, length-if, length-all-rules) (omega arith)
 
   file-fields : (c : Contents) → valuesOf c ≡ values → fileOf c ≡ fields
   unfolding valuesOf valuesGiven fileOf
@@ -155,10 +149,10 @@ module _ (lent : Lent) where
   no-room place n h e small =
       rw (h .read, writtenValues) (rw (h .file, length-fields, ← e, lt-leb n (length place) small))
 
-  pub all-put : (place now : List ℕ) (end : ℕ) → Passed → size ≤ length place
-      → Put place fields now end → leftBy (Bytes end) now ≡ writtenValues values place
+  pub all-put : (place now : List ℕ) (end : ℕ) → Passed → size ≤ length place → Stored place 0 fields now end
+      → leftBy (Bytes end) now ≡ writtenValues values place
   unfolding leftBy answerOf writtenValues writing
   all-put place now end h room put =
-      let fills = put-fills place fields now end put (omega (arith, length-fields)) in
-      rw (h .read, writtenValues)
-      (rw (h .file, length-fields, le-leb size (length place) room, ← fills, put .ends, length-fields))
+      let fills = stored-fills put (omega (arith, length-fields)) in
+      let ends : end ≡ size = omega (arith, put .end, length-fields) in
+      rw (h .read, writtenValues) (rw (h .file, length-fields, le-leb size (length place) room, ← fills, ends))

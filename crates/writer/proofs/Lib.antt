@@ -1,3 +1,5 @@
--- Laws of the writer: pieces put one after another, and the file that they are.
+-- Laws of the writer: pieces put one after another, and the file that they are; what is claimed of the definitions, and of `write`.
 pub mod Pieces
 pub mod Files
+pub mod Claims
+pub mod Answers

@@ -6,7 +6,7 @@ ghost use lib.ListN.{length};
 ghost use lib.Seq.{sets};
 ghost use Rattle.deployment.specs.File.{fieldBytes};
 ghost use Rattle.reader.specs.Answers.{valuesGiven};
-ghost use Rattle.writer.specs.Answers.{writtenValues, leftBy, rulesBytes, fieldIf, bytesIf, needed};
+ghost use Rattle.writer.specs.Answers.{writtenValues, leftBy, Stored, rulesBytes, fieldIf, bytesIf, needed};
 use deployment::Refusal;
 use deployment::Why;
 use reader::Checking;
@@ -86,10 +86,7 @@ fn copy(place: &mut [u8], at: usize, value: &[u8])
 // "a one-byte tag, a two-byte length, the value", from `at` on; the answer is the position behind it.
 fn put_field(place: &mut [u8], at: usize, tag: u8, value: &[u8]) -> usize
     requires { ⌜ (at + (3 + length (now value)) ≤ length (now place)) × (length (now value) < 65536) ⌝ }
-    ensures { λ next. ⌜
-        (now (place .exit) ≡ sets (now (place .entry)) at (fieldBytes tag (now (value .entry))))
-        × (next ≡ at + (3 + length (now (value .entry))))
-        ⌝ }
+    ensures { λ next. ⌜ Stored (now (place .entry)) at (fieldBytes tag (now (value .entry))) (now (place .exit)) next ⌝ }
 {
     let size = value.len();
     place[at] = tag;
@@ -103,10 +100,7 @@ fn put_field(place: &mut [u8], at: usize, tag: u8, value: &[u8]) -> usize
 // The same for a field that may be absent.
 fn put_if(place: &mut [u8], at: usize, there: bool, tag: u8, value: &[u8]) -> usize
     requires { ⌜ (at + bytesIf there (length (now value)) ≤ length (now place)) × (bytesIf there (length (now value)) < 65536) ⌝ }
-    ensures { λ next. ⌜
-        (now (place .exit) ≡ sets (now (place .entry)) at (fieldIf there tag (now (value .entry))))
-        × (next ≡ at + bytesIf there (length (now (value .entry))))
-        ⌝ }
+    ensures { λ next. ⌜ Stored (now (place .entry)) at (fieldIf there tag (now (value .entry))) (now (place .exit)) next ⌝ }
 {
     if there {
         put_field(place, at, tag, value)
@@ -119,8 +113,7 @@ fn put_if(place: &mut [u8], at: usize, there: bool, tag: u8, value: &[u8]) -> us
 fn put_rules(place: &mut [u8], rules: &[u8]) -> usize
     requires { ⌜ length (now rules) / 27 * 30 ≤ length (now place) ⌝ }
     ensures { λ next. ⌜
-        (now (place .exit) ≡ sets (now (place .entry)) 0 (rulesBytes (length (now (rules .entry)) / 27) (now (rules .entry))))
-        × (next ≡ length (now (rules .entry)) / 27 * 30)
+        Stored (now (place .entry)) 0 (rulesBytes (length (now (rules .entry)) / 27) (now (rules .entry))) (now (place .exit)) next
         ⌝ }
 {
     let count = rules.len() / RULE_BYTES;

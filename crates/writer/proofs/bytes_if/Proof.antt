@@ -1,6 +1,5 @@
 -- `writer::bytes_if` meets its contract: each way is the definition's own case. Assumes nothing.
 use native.Mathlib.Omega.{arith}
-use mathlib.Core.Path.{_≡_, refl}
 use Rattle.writer.specs.Answers.{bytesIf}
 use Rattle.writer.proofs.bytes_if.Statement.{statement}
 use Rattle.writer.proofs.bytes_if.Tie as tie

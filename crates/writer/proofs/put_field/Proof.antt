@@ -1,9 +1,9 @@
 -- `writer::put_field` meets its contract: the three stores of the head and the copy are a run of stores of the field's bytes.
 -- Assumes nothing.
 use native.Mathlib.Omega.{arith}
-use mathlib.Core.Path.{refl, _∙_, ap}
-use lib.ListN.{length, length-set}
-use lib.Seq.{length-sets}
+use mathlib.Core.Path.{_∙_}
+use lib.ListN.{length-set}
+use Rattle.deployment.proofs.ReadBack.{length-field}
 use Rattle.writer.proofs.Pieces.{field-put}
 use borrow.Author.Needs.{needs}
 use Rattle.writer.proofs.put_field.Statement.{statement}
@@ -46,11 +46,11 @@ returns : tie.Need-returns
 returns c =
     let start = c .before .before .before .before .before .before in
     let args = start .args in
-    let size = length (args .value .now) in (
-      c .before .before .copy .ensures
-          ∙ field-put (args .place .now) (args .at) (args .tag) size (args .value .now) (omega (arith, start .fits .tag)) refl (omega arith),
-      omega arith,
-    )
+    record {
+      place = c .before .before .copy .ensures
+          ∙ field-put (args .place .now) (args .at) (args .tag) (args .value .now) (omega (arith, start .fits .tag)) (omega arith);
+      end = omega (arith, length-field (args .tag) (args .value .now));
+    }
 
 pub put-field-spec : {M : Type 1} → statement M
 put-field-spec =

@@ -17,14 +17,14 @@ same-length : tie.Need-same-length
 same-length c = search needs
 
 returns : tie.Need-returns
-unfolding fieldIf bytesIf
+unfolding fieldIf
 returns c =
     let then = c .before .before .before .before in
     rw (then .if1 .taken) (c .before .before .put-field .ensures)
 
 returns-2 : tie.Need-returns-2
-unfolding fieldIf bytesIf
-returns-2 c = rw (c .if1 .left) (refl, omega arith)
+unfolding fieldIf
+returns-2 c = rw (c .if1 .left) (record { place = refl; end = omega arith })
 
 pub put-if-spec : {M : Type 1} → statement M
 put-if-spec = tie.close (tie.spec put-field-requires same-length returns returns-2)

@@ -1,0 +1,3 @@
+-- Laws that the proofs of the planners cite.
+pub mod Sending
+pub mod AppendDelete

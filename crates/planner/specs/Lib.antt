@@ -1,0 +1,4 @@
+-- What the planners answer and write, over the definitions of the crates below.
+pub mod Sending
+pub mod AppendDelete
+pub mod Plans

@@ -1,0 +1,18 @@
+// The two planners. Each writes a script field into a lent place and answers rules kept, commands and bytes written.
+
+use deployment::Refusal;
+
+mod append_delete;
+mod script;
+
+// What a planner has written.
+pub struct Plan {
+    pub kept: usize,
+    pub commands: usize,
+    pub bytes: usize,
+}
+
+pub enum Planned {
+    Done(Plan),
+    Turned(Refusal),
+}
