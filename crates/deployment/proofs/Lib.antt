@@ -6,3 +6,4 @@ pub mod Fields
 pub mod ReadBack
 pub mod Reader
 pub mod FieldValues
+pub mod Answers
