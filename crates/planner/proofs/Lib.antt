@@ -1,3 +1,12 @@
 -- Laws that the proofs of the planners cite.
 pub mod Sending
 pub mod AppendDelete
+pub mod Marks
+pub mod Places
+pub mod Looking
+pub mod Edits
+pub mod OwnChoice
+pub mod StageOne
+pub mod FirstStage
+pub mod SecondStage
+pub mod PlanTwo

@@ -1,4 +1,5 @@
 -- What the planners answer and write, over the definitions of the crates below.
 pub mod Sending
 pub mod AppendDelete
+pub mod InsertDeleteMove
 pub mod Plans

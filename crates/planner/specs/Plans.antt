@@ -1,13 +1,14 @@
 -- The planners' answers: rules kept, commands and bytes written, and every byte of the lent place. Assumes nothing.
 use Prim.Native.Nat.{ℕ}
 use mathlib.Core.Path.{_≡_}
-use mathlib.Core.Bool.{cond}
+use mathlib.Core.Bool.{Bool, true, false, cond}
 use mathlib.Core.List.{List}
+use mathlib.Core.Option.{Option, none, some}
 use lib.ListN.{length}
 use lib.Dec.{leb}
 use Rattle.policy.specs.AppendDelete.{keptRun, planOne}
 use Rattle.policy.specs.InsertDeleteMove.{keptTwo, planTwo}
-use Rattle.deployment.specs.Values.{Script, scriptBytes}
+use Rattle.deployment.specs.Values.{Script, numbersOf, scriptBytes}
 use Rattle.deployment.specs.Contents.{Contents}
 use Rattle.deployment.specs.File.{Reading, accepted, refused, fieldBytes, script-tag}
 use Rattle.deployment.specs.FieldValues.{filled}
@@ -32,12 +33,20 @@ madeOneOf initial target =
 unfoldable pub madeOne : Contents → Made
 madeOne c = madeOneOf (c .initial) (c .target)
 
-unfoldable pub madeTwo : Contents → Made
-madeTwo c =
+unfoldable pub madeTwoOf : List ℕ → List ℕ → Option (List ℕ) → Made
+madeTwoOf initial target keep =
     record {
-      kept = length (keptTwo (c .initial) (c .target) (c .keep));
-      script = record { type = 2; commands = planTwo (c .initial) (c .target) (c .keep) };
+      kept = length (keptTwo initial target keep);
+      script = record { type = 2; commands = planTwo initial target keep };
     }
+
+unfoldable pub madeTwo : Contents → Made
+madeTwo c = madeTwoOf (c .initial) (c .target) (c .keep)
+
+-- "told whether a keep list is absent or empty": the keep list of a field value
+unfoldable pub keepOf : Bool → List ℕ → Option (List ℕ)
+keepOf true value = some (numbersOf value)
+keepOf false value = none
 
 -- "a script field": tag 05, length, type byte, records
 unfoldable pub scriptField : Made → List ℕ

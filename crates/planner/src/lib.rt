@@ -3,6 +3,7 @@
 use deployment::Refusal;
 
 mod append_delete;
+mod insert_delete_move;
 mod script;
 
 // What a planner has written.

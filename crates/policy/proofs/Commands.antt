@@ -29,7 +29,7 @@ within-on : (i top : ℕ) → within i top ≡ true → (1 ≤ i) × (i ≤ top)
 unfolding within
 within-on i top e = let both = and-both (leb 1 i) (leb i top) e in (leb-true 1 i (both .0), leb-true i top (both .1))
 
-on-within : (i top : ℕ) → 1 ≤ i → i ≤ top → within i top ≡ true
+pub on-within : (i top : ℕ) → 1 ≤ i → i ≤ top → within i top ≡ true
 unfolding within
 on-within i top low high = both-and (le-leb 1 i low) (le-leb i top high)
 
@@ -72,7 +72,7 @@ rule-at : {i : ℕ} {l : List ℕ} (u : List ℕ) (x : ℕ) (v : List ℕ) → i
 unfolding ruleAt
 rule-at u x v at is = rw (at, is, sub-one (suc (length u))) (getD-append-seam u x v 0)
 
-lifted-at : {i : ℕ} {l : List ℕ} (u : List ℕ) (x : ℕ) (v : List ℕ) → i ≡ suc (length u) → l ≡ u ++ (x ∷ v) → lifted i l ≡ u ++ v
+pub lifted-at : {i : ℕ} {l : List ℕ} (u : List ℕ) (x : ℕ) (v : List ℕ) → i ≡ suc (length u) → l ≡ u ++ (x ∷ v) → lifted i l ≡ u ++ v
 unfolding lifted
 lifted-at u x v at is =
     rw (at, is, sub-one (suc (length u)), take-append-seam u (x ∷ v), ← add-one (length u), drop-append-add u (x ∷ v) 1)
@@ -81,7 +81,7 @@ pub placed-at : {i : ℕ} {l : List ℕ} (r : ℕ) (u v : List ℕ) → i ≡ su
 unfolding placed
 placed-at r u v at is = rw (at, is, sub-one (suc (length u)), take-append-seam u v, drop-append-seam u v)
 
-moved-at : {i j : ℕ} {l : List ℕ} (u : List ℕ) (x : ℕ) (v p q : List ℕ) → i ≡ suc (length u) → l ≡ u ++ (x ∷ v)
+pub moved-at : {i j : ℕ} {l : List ℕ} (u : List ℕ) (x : ℕ) (v p q : List ℕ) → i ≡ suc (length u) → l ≡ u ++ (x ∷ v)
     → j ≡ suc (length p) → u ++ v ≡ p ++ q → moved i j l ≡ p ++ (x ∷ q)
 unfolding moved
 moved-at u x v p q at is to again = rw (rule-at u x v at is) (placed-at x p q to (lifted-at u x v at is ∙ again))

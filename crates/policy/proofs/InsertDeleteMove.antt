@@ -41,7 +41,7 @@ own-target left (r ∷ target) =
     (λ t. rw (t, ownChoice) (Sublistᴰ·cons-cons refl (own-target (after r left) target)))
     (λ f. rw (f, ownChoice) (Sublistᴰ·cons (own-target left target)))
 
-kept-keepable : (size : ℕ) (initial target : List ℕ) (keep : Option (List ℕ)) → Accepted size initial target keep
+pub kept-keepable : (size : ℕ) (initial target : List ℕ) (keep : Option (List ℕ)) → Accepted size initial target keep
     → Sublistᴰ (keptTwo initial target keep) initial × Sublistᴰ (keptTwo initial target keep) target
 unfolding keptTwo
 kept-keepable size initial target none a = (own-initial initial target, own-target initial target)

@@ -39,7 +39,7 @@ pub record Given (size : ℕ) (initial target kept : List ℕ) : Type 0 where
   pub kept-initial : Sublistᴰ kept initial
   pub kept-target : Sublistᴰ kept target
 
-settled-waiting : (s w : ℕ) → settled s ≡ waiting w → ⊥
+pub settled-waiting : (s w : ℕ) → settled s ≡ waiting w → ⊥
 settled-waiting s w e = let z : _≡_ {A = ℕ} 0 1 = cc in omega arith
 
 -- the running list in the first stage, split into the front and the rest: of the target, `taken` has been taken and `ts` has not
@@ -65,7 +65,7 @@ split-sound : {initial target kept taken ts : List ℕ} {front : List Standing} 
 split-sound p = record { distinct = p .distinct; ordered = p .ordered; full = inl (p .whole) }
 
 -- one rule of the target, by the four cases
-take-cases : (C : Taken → Type 0) (initial kept : List ℕ) (h : Halves) (r : ℕ)
+pub take-cases : (C : Taken → Type 0) (initial kept : List ℕ) (h : Halves) (r : ℕ)
     → (¬ In r initial → C (inserted h r))
     → (In r initial → In r kept → C (reached h r))
     → (In r initial → ¬ In r kept → In r (h .rest) → C (raised h r))

@@ -1,0 +1,193 @@
+-- `stage_one` does what the definition does in the first stage. The loop's invariant is `Turn`: the list stands for two halves from which the
+-- rest of the target leads to the same end, and the commands so far are sent. The measure is what is left of the target. Assumes nothing.
+use Prim.Native.Nat.{ℕ, _-_, _≤_, _<_}
+use native.Mathlib.Omega.{arith}
+use mathlib.Core.Path.{_≡_, refl, sym, _∙_, ap}
+use mathlib.Core.List.{List}
+use borrow.Author.Needs.{needs}
+use lib.ListN.{length, take, getD}
+use lib.Seq.{getD-take}
+use Rattle.policy.specs.Properties.{Distinct}
+use Rattle.policy.proofs.Lists.{place-in}
+use Rattle.policy.proofs.Order.{sublist-distinct}
+use Rattle.policy.proofs.StageOne.{Given}
+use Rattle.running.specs.Running.{view}
+use Rattle.running.specs.Places.{Says}
+use Rattle.running.proofs.Slots.{field-length}
+use Rattle.running.proofs.Edits.{view-count, view-fits}
+use Rattle.running.proofs.Says.{says-numbered}
+use Rattle.planner.proofs.Looking.{rule-shown}
+use Rattle.planner.proofs.Places.{place-tells}
+use Rattle.planner.proofs.Marks.{marks-none}
+use Rattle.planner.proofs.FirstStage.{Turn, turn-first, turn-length, turn-more, turn-last}
+use Rattle.planner.proofs.insert_delete_move.stage_one.Statement.{statement}
+use Rattle.planner.proofs.insert_delete_move.stage_one.Tie as tie
+use Rattle.planner.proofs.insert_delete_move.stage_one.Reads as reads
+use Rattle.planner.proofs.insert_delete_move.stage_one.Lts as lts
+use Rattle.planner.proofs.insert_delete_move.take_one.Reads as take-one-reads
+use Rattle.running.proofs.Places.none.Reads as none-reads
+use Rattle.running.proofs.Places.numbered.Reads as numbered-reads
+use Rattle.running.proofs.Places.place.Reads as place-reads
+use Rattle.running.proofs.Running.count.Reads as count-reads
+
+abbrev Inv-loop : tie.InvT-loop
+Inv-loop field₀ from keeps len rules stage₀ j₀ field stage j =
+    (initial kept : List ℕ) → view (stage₀ .list) ≡ initial → Says (from .of) initial → Says (keeps .of) kept
+    → Given 1024 initial (take len rules) kept → Turn initial (take len rules) kept field₀ stage field j
+
+abbrev μ-loop : tie.MeasureT-loop
+μ-loop field₀ from keeps len rules stage₀ j₀ field stage j = len - j
+
+none-requires : tie.Need-none-requires Inv-loop μ-loop
+none-requires c κs = search needs
+
+numbered-requires : tie.Need-numbered-requires Inv-loop μ-loop
+numbered-requires c κs = search needs
+
+none-requires-2 : tie.Need-none-requires-2 Inv-loop μ-loop
+none-requires-2 c κs = search needs
+
+numbered-requires-2 : tie.Need-numbered-requires-2 Inv-loop μ-loop
+numbered-requires-2 c κs = search needs
+
+count-requires : tie.Need-count-requires Inv-loop μ-loop
+count-requires c κs = search needs
+
+loop-holds : tie.Need-loop-holds Inv-loop μ-loop
+loop-holds c =
+    let start = c .before .before .before .before .before .before .before in
+    λ initial kept is says keeps given. turn-first initial _ kept given _ (start .args .initial) _ is marks-none (start .pre .3)
+
+-- the two policies and the rules to keep
+given : (c : tie.After-count Inv-loop μ-loop)
+    → Given 1024 (view (c .before .before .before .before .before .before .args .initial)) (view (c .before .before .before .before .before .before .args .target))
+    (view (c .before .before .before .before .before .before .args .kept))
+given c =
+    let accepted = c .before .before .before .before .before .before .pre .0 in
+    record {
+      old = accepted .first;
+      new = accepted .last;
+      kept-initial = accepted .keepable .0;
+      kept-target = accepted .keepable .1;
+    }
+
+-- the side arrays are right for the initial policy and for the rules to keep
+says-initial : (c : tie.After-count Inv-loop μ-loop)
+    → Says (c .before .before .before .numbered .result .of) (view (c .before .before .before .before .before .before .args .initial))
+says-initial c =
+    let numbered = c .before .before .before in
+    rw (numbered .numbered .ensures, numbered .before .none .ensures) (says-numbered _ (given c .old .distinct))
+
+says-kept : (c : tie.After-count Inv-loop μ-loop)
+    → Says (c .before .numbered2 .result .of) (view (c .before .before .before .before .before .before .args .kept))
+says-kept c =
+    let numbered = c .before in
+    rw (numbered .numbered2 .ensures, numbered .before .none2 .ensures)
+    (says-numbered _ (sublist-distinct (given c .kept-initial) (given c .old .distinct)))
+
+-- the invariant, of the policies that are planned for
+turn : (c : tie.At-loop Inv-loop μ-loop)
+    → Turn (view (c .before .before .before .before .before .before .before .before .args .initial))
+    (view (c .before .before .before .before .before .before .before .before .args .target))
+    (view (c .before .before .before .before .before .before .before .before .args .kept))
+    (c .before .before .before .before .before .before .before .before .args .field .now) (c .loop .stage) (c .loop .field) (c .loop .j)
+turn c =
+    let counted = c .before .before in
+    let start = counted .before .before .before .before .before .before in
+    let a = start .args in
+    let shown : take (counted .count .result) (a .target .rules) ≡ view (a .target) = view-count (a .target) _ (counted .count .ensures) in
+    rw shown at (c .loop .inv (view (a .initial)) (view (a .kept)) refl (says-initial counted) (says-kept counted) (rw shown (given counted)))
+
+-- an index of the target
+below : (c : tie.In-loop Inv-loop μ-loop) → c .before .loop .j < 512
+below c =
+    let counted = c .before .before .before in
+    let start = counted .before .before .before .before .before .before in
+    omega (arith, c .loop-test .taken, counted .count .ensures, start .pre .2)
+
+mul-r : tie.Need-mul-r Inv-loop μ-loop
+mul-r c = record { fits = omega (arith, below c) }
+
+array-read-r : tie.Need-array-read-r Inv-loop μ-loop
+array-read-r c = omega (arith, below c)
+
+place-requires : tie.Need-place-requires Inv-loop μ-loop
+place-requires c κs = search needs
+
+place-requires-2 : tie.Need-place-requires-2 Inv-loop μ-loop
+place-requires-2 c κs = search needs
+
+-- the next rule of the target
+small : (c : tie.In-loop Inv-loop μ-loop)
+    → getD (c .before .before .before .before .before .before .before .before .before .args .target .rules) (c .before .loop .j) 0 < 1024
+small c =
+    let counted = c .before .before .before in
+    let target = counted .before .before .before .before .before .before .args .target in
+    let more : c .before .loop .j < length (view target) = omega (arith, c .loop-test .taken, counted .count .ensures) in
+    rw (rule-shown target (c .before .loop .j) more) (given counted .new .inside _ (place-in 0 (view target) (c .before .loop .j) more))
+
+take-one-requires : tie.Need-take-one-requires Inv-loop μ-loop
+take-one-requires c κs =
+    let turns = c .before .before .before in
+    let now = turns .before in
+    let counted = now .before .before in
+    let start = counted .before .before .before .before .before .before in
+    let here = turn now in
+    let size = turn-length _ _ _ (given counted) _ _ _ _ here in
+    (size .0, omega (arith, below turns, size .1, start .pre .1), small turns, omega (arith, below turns, here .counted, here .few), here .sent .long)
+
+add-j : tie.Need-add-j Inv-loop μ-loop
+add-j c = record { fits = omega (arith, below (c .before .before .before .before .before .before)) }
+
+loop-less : tie.Need-loop-less Inv-loop μ-loop
+loop-less c = omega arith
+
+loop-again : tie.Need-loop-again Inv-loop μ-loop
+loop-again c =
+    let turns = c .before .before .before .before .before .before in
+    let now = turns .before .loop in
+    let counted = turns .before .before .before in
+    let target = counted .before .before .before .before .before .before .args .target in
+    let len = counted .count .result in
+    let r = getD (target .rules) (now .j) 0 in
+    let more : now .j < length (take len (target .rules)) =
+    rw (view-count target len (counted .count .ensures)) (omega (arith, turns .loop-test .taken, counted .count .ensures)) in
+    let old = c .before .before .before .before .before in
+    let kept = c .before .before .before .before in
+    λ initial keep is says keeps given.
+    turn-more initial (take len (target .rules)) keep given _ (now .stage) (now .field) (now .j) (now .inv initial keep is says keeps given)
+    r _ _ (c .before .before .take-one .result) _ more (sym (getD-take len (target .rules) (now .j) 0 (turns .loop-test .taken)))
+    (place-tells (counted .before .before .before .numbered .result .of) initial r (old .place .result) says (small turns) (old .place .ensures))
+    (place-tells (counted .before .numbered2 .result .of) keep r (kept .place2 .result) keeps (small turns) (kept .place2 .ensures))
+    (c .before .before .take-one .ensures)
+
+same-length : tie.Need-same-length Inv-loop μ-loop
+same-length c = turn (c .before) .sent .long ∙ sym (c .before .before .before .before .before .before .before .before .before .pre .3)
+
+returns : tie.Need-returns Inv-loop μ-loop
+returns c =
+    let counted = c .before .before .before in
+    turn-last _ _ _ (given counted) _ _ _ _ (turn (c .before)) (omega (arith, c .loop-test .left, counted .count .ensures))
+
+pub stage-one-spec : {M : Type 1} → statement M
+stage-one-spec =
+    tie.close
+    (tie.spec
+    Inv-loop
+    μ-loop
+    none-requires
+    numbered-requires
+    none-requires-2
+    numbered-requires-2
+    count-requires
+    loop-holds
+    mul-r
+    array-read-r
+    place-requires
+    place-requires-2
+    take-one-requires
+    add-j
+    loop-less
+    loop-again
+    same-length
+    returns)

@@ -1,0 +1,184 @@
+-- `stage_two` does what the definition does in the second stage. The loop's invariant is `Pass`: the list is what is left of the front and the
+-- settled rules behind it, from which the rest of the stage is done, and the commands so far are sent. The measure is the place. Assumes nothing.
+use Prim.Native.Nat.{ℕ, suc, _-_, _≤_, _<_}
+use native.Mathlib.Omega.{arith}
+use mathlib.Core.Path.{_≡_, refl, sym, _∙_, ap}
+use mathlib.Core.Bool.{Bool, false}
+use mathlib.Core.Logic.{⊎-elim}
+use mathlib.Core.List.{List}
+use borrow.Author.Needs.{needs}
+use borrow.Author.Tests.{not-true, not-false}
+use lib.ListN.{length, take, getD}
+use Rattle.policy.specs.Claims.{Policy}
+use Rattle.policy.proofs.Lists.{place-in}
+use Rattle.running.specs.Running.{view}
+use Rattle.running.specs.Places.{Says}
+use Rattle.running.proofs.Slots.{field-length}
+use Rattle.running.proofs.Edits.{view-count, view-fits}
+use Rattle.running.proofs.Says.{says-numbered}
+use Rattle.planner.specs.declared.insert_delete_move.Stage.{Stage}
+use Rattle.planner.specs.InsertDeleteMove.{frontOf}
+use Rattle.planner.proofs.Looking.{rule-shown}
+use Rattle.planner.proofs.SecondStage.{Pass, pass-at, pass-first, pass-fits, pass-rule, pass-settled, pass-room, pass-waiting, pass-last}
+use Rattle.planner.proofs.insert_delete_move.stage_two.Statement.{statement}
+use Rattle.planner.proofs.insert_delete_move.stage_two.Tie as tie
+use Rattle.planner.proofs.insert_delete_move.stage_two.Reads as reads
+use Rattle.planner.proofs.insert_delete_move.stage_two.Lts as lts
+use Rattle.planner.proofs.insert_delete_move.settle.Reads as settle-reads
+use Rattle.running.proofs.Places.none.Reads as none-reads
+use Rattle.running.proofs.Places.numbered.Reads as numbered-reads
+use Rattle.running.proofs.Running.count.Reads as count-reads
+
+abbrev Inv-loop : tie.InvT-loop
+Inv-loop field₀ to settled list₀ sent₀ i₀ field list sent i =
+    (target : List ℕ) → Policy 1024 target → Says (to .of) target → Pass target settled (view list₀) field₀ sent₀ list sent field i
+
+abbrev μ-loop : tie.MeasureT-loop
+μ-loop field₀ to settled list₀ sent₀ i₀ field list sent i = i
+
+none-requires : tie.Need-none-requires Inv-loop μ-loop
+none-requires c κs = search needs
+
+numbered-requires : tie.Need-numbered-requires Inv-loop μ-loop
+numbered-requires c κs = search needs
+
+count-requires : tie.Need-count-requires Inv-loop μ-loop
+count-requires c κs = search needs
+
+loop-holds : tie.Need-loop-holds Inv-loop μ-loop
+loop-holds c =
+    let start = c .before .before .before .before .before .before in
+    let stage = start .args .stage in
+    λ target policy says. rw (c .count .ensures)
+    (pass-first target (stage .settled) (view (stage .list)) _ (stage .sent) (stage .list) refl (start .pre .3) (omega (arith, start .pre .2)))
+
+sub-r : tie.Need-sub-r Inv-loop μ-loop
+sub-r c = search needs
+
+-- the side array is right for the target
+says-target : (c : tie.After-numbered Inv-loop μ-loop) → Says (c .numbered .result .of) (view (c .before .before .before .args .target))
+says-target c =
+    let start = c .before .before .before in
+    rw (c .numbered .ensures, c .before .none .ensures) (says-numbered (view (start .args .target)) (start .pre .0 .distinct))
+
+module _ (c : tie.At-loop Inv-loop μ-loop) where
+  abbrev start : tie.Start Inv-loop μ-loop
+  start = c .before .before .before .before .before .before .before
+
+  abbrev stage : Stage
+  stage = start .args .stage
+
+  -- the invariant, of the target that is planned for
+  pass : Pass (view (start .args .target)) (stage .settled) (view (stage .list)) (start .args .field .now) (stage .sent) (c .loop .list) (c .loop .sent)
+      (c .loop .field) (c .loop .i)
+  pass = c .loop .inv (view (start .args .target)) (start .pre .0) (says-target (c .before .before .before .before))
+
+  -- a place of the list is a slot of the array
+  below : c .loop .i ≤ 1024
+  below =
+      omega (arith, pass .inside, view-fits (stage .list), field-length 1024 (stage .list .rules) (start .good .0 .1 .1 .0 .1 .1 .0 .1 .0 .1))
+
+  module _ (more : 0 < c .loop .i) where
+    -- the invariant, once the place is one behind another
+    again : {target : List ℕ}
+        → Pass target (stage .settled) (view (stage .list)) (start .args .field .now) (stage .sent) (c .loop .list) (c .loop .sent) (c .loop .field) (c .loop .i)
+        → Pass target (stage .settled) (view (stage .list)) (start .args .field .now) (stage .sent) (c .loop .list) (c .loop .sent) (c .loop .field) (suc (c .loop .i - 1))
+    again p = pass-at (omega arith) p
+
+    -- the rule there is the one that stood there at the start of the stage
+    next : getD (c .loop .list .rules) (c .loop .i - 1) 0 ≡ getD (view (stage .list)) (c .loop .i - 1) 0
+    next =
+        rule-shown (c .loop .list) (c .loop .i - 1) (omega (arith, pass-fits _ _ _ _ _ _ _ _ _ pass))
+        ∙ pass-rule _ _ _ _ _ _ _ _ _ (again pass)
+
+    small : getD (c .loop .list .rules) (c .loop .i - 1) 0 < 1024
+    small =
+        let first = view (stage .list) in
+        rw next (start .pre .1 (getD first (c .loop .i - 1) 0) (place-in 0 first (c .loop .i - 1) (omega (arith, pass .inside))))
+
+    mark : {b : Bool} → getD (stage .settled) (getD (c .loop .list .rules) (c .loop .i - 1) 0) false ≡ b
+        → getD (stage .settled) (getD (view (stage .list)) (c .loop .i - 1) 0) false ≡ b
+    mark e = rw next at e
+
+    -- a waiting rule: there is room for its command
+    room : getD (stage .settled) (getD (c .loop .list .rules) (c .loop .i - 1) 0) false ≡ false → c .loop .sent < 1024
+    unfolding frontOf
+    room unmarked = pass-room _ _ _ _ _ _ _ _ _ (again pass) (mark unmarked) (start .pre .2)
+
+mul-r : tie.Need-mul-r Inv-loop μ-loop
+mul-r c = record { fits = omega (arith, below (c .before .before)) }
+
+array-read-r : tie.Need-array-read-r Inv-loop μ-loop
+array-read-r c = omega (arith, below (c .before .before), c .before .loop-test .taken)
+
+cast-if1 : tie.Need-cast-if1 Inv-loop μ-loop
+cast-if1 c = record { fits = omega (arith, small (c .before .before) (c .before .loop-test .taken)) }
+
+array-read-if1 : tie.Need-array-read-if1 Inv-loop μ-loop
+array-read-if1 c = small (c .before .before) (c .before .loop-test .taken)
+
+settle-requires : tie.Need-settle-requires Inv-loop μ-loop
+settle-requires c κs =
+    let turn = c .before .before .before in
+    let at = turn .before in
+    let more = turn .loop-test .taken in
+    (more, pass-fits _ _ _ _ _ _ _ _ _ (pass at), small at more, room at more (not-true _ (c .before .if1 .taken)), pass at .sends .long)
+
+add-sent : tie.Need-add-sent Inv-loop μ-loop
+add-sent c =
+    let then1 = c .before .before .before .before in
+    let turn = then1 .before .before in
+    record { fits = omega (arith, room (turn .before) (turn .loop-test .taken) (not-true _ (then1 .if1 .taken))) }
+
+sub-i : tie.Need-sub-i Inv-loop μ-loop
+sub-i c = c .before .before .loop-test .taken
+
+loop-less : tie.Need-loop-less Inv-loop μ-loop
+loop-less c = omega (arith, c .before .before .loop-test .taken)
+
+loop-again : tie.Need-loop-again Inv-loop μ-loop
+loop-again c =
+    let turn = c .before .before in
+    let at = turn .before in
+    let more = turn .loop-test .taken in
+    λ target policy says.
+    let p = again at more (at .loop .inv target policy says) in
+    ⊎-elim
+    (λ w. rw (w .5, w .6, w .7)
+    (pass-waiting _ _ _ _ _ _ _ _ _ p (mark at more (not-true _ (w .0 .taken))) (at .before .before .before .before .numbered .result) (at .loop .i) _ _ _ policy says (omega arith) (next at more) (w .2 .ensures)))
+    (λ w. rw (w .1, w .2, w .3) (pass-settled _ _ _ _ _ _ _ _ _ p (mark at more (not-false _ (w .0 .left)))))
+    (c .if1 .came)
+
+same-length : tie.Need-same-length Inv-loop μ-loop
+same-length c = pass (c .before) .sends .long ∙ sym (c .before .before .before .before .before .before .before .before .pre .3)
+
+returns : tie.Need-returns Inv-loop μ-loop
+unfolding frontOf
+returns c =
+    let start = c .before .before .before .before .before .before .before .before in
+    let stage = start .args .stage in
+    let end : c .before .loop .i ≡ 0 = omega (arith, c .loop-test .left) in
+    pass-last (view (start .args .target)) (stage .settled) (view (stage .list)) _ (stage .sent) _ _ _ (pass-at end (pass (c .before)))
+
+pub stage-two-spec : {M : Type 1} → statement M
+stage-two-spec =
+    tie.close
+    (tie.spec
+    Inv-loop
+    μ-loop
+    none-requires
+    numbered-requires
+    count-requires
+    loop-holds
+    sub-r
+    mul-r
+    array-read-r
+    cast-if1
+    array-read-if1
+    settle-requires
+    add-sent
+    sub-i
+    loop-less
+    loop-again
+    same-length
+    returns)
