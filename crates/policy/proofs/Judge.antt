@@ -169,7 +169,7 @@ first-found test from (x ∷ l) (suc k) h =
     rw (h .earlier 0 (omega arith)) (first-found test (suc from) l k (later-fails test 0 x l k h) ∙ ap some (omega arith))
 
 module _ (initial target : List ℕ) where
-  ordered-found : (l : List ℕ) → ordered initial target l ≡ true → firstUnsupported initial target l ≡ none
+  pub ordered-found : (l : List ℕ) → ordered initial target l ≡ true → firstUnsupported initial target l ≡ none
   unfolding ordered firstUnsupported
   ordered-found l e = all-found (supported initial target l) 1 l e
 

@@ -51,7 +51,7 @@ every-at type (piece ∷ pieces) commands (suc k) e h =
 
 -- The loop: a script value that is read, and the list after its first k commands.
 module _ (value : List ℕ) (readable : Readable value) where
-  script-count : length (commandsOf (scriptOf value)) ≡ commandCount value
+  pub script-count : length (commandsOf (scriptOf value)) ≡ commandCount value
   unfolding commandsOf
   script-count =
       let (script, read) = readable in
@@ -59,7 +59,7 @@ module _ (value : List ℕ) (readable : Readable value) where
       rw read (every-count (script .type) (commandChunks value) (script .commands) every ∙ chunk-count value 0)
 
   -- the k-th command, and the rest of the script
-  command-next : (k : ℕ) → k < commandCount value
+  pub command-next : (k : ℕ) → k < commandCount value
       → (c : Command) × (commandAt value k ≡ some c) × (drop k (commandsOf (scriptOf value)) ≡ c ∷ drop (suc k) (commandsOf (scriptOf value)))
   unfolding commandsOf
   command-next k h =

@@ -60,7 +60,7 @@ unfolding needs
 needs-passed true fault rest m e = (refl, e)
 needs-passed false fault rest m e = let clash : _≡_ {A = ℕ} 0 1 = cc in absurd (omega arith)
 
-byOutcome : {A : Type 0} (o : Outcome) → ((m : List ℕ) → o ≡ passed m → A) → ((fault : Fault) → o ≡ failed fault → A) → A
+pub byOutcome : {A : Type 0} (o : Outcome) → ((m : List ℕ) → o ≡ passed m → A) → ((fault : Fault) → o ≡ failed fault → A) → A
 byOutcome (passed m) pass fail = pass m refl
 byOutcome (failed fault) pass fail = fail fault refl
 
