@@ -141,7 +141,6 @@ def swapped(i, j):
 
 def values():
     fs = base()
-    bad = bytearray(rule(7))
     out = []
     for at, to in ((0, 2), (1, 255), (3, 255), (11, 255), (15, 255), (23, 255)):
         for i in (0, 2, 4):
@@ -175,10 +174,10 @@ def limits():
     rules_600 = many_rules(600)
     return [
         many_rules(1024) + tail, many_rules(1025) + tail, many_rules(1024) + field(1, b"") + tail,
-        rules_600 + field(2, all_512) + field(3, all_512[::1]) + field(4, all_512), rules_600 + field(2, all_513) + field(3, numbers()),
+        rules_600 + field(2, all_512) + field(3, all_512) + field(4, all_512), rules_600 + field(2, all_513) + field(3, numbers()),
         rules_600 + field(2, numbers()) + field(3, all_513),
         rules_600 + field(2, all_512) + field(3, all_512) + field(4, all_513),
-        tail[:0] + many_rules(1) + tail + field(5, b"\1" + b"\1\0\0\0\0" * 2048),
+        many_rules(1) + tail + field(5, b"\1" + b"\1\0\0\0\0" * 2048),
         many_rules(1) + tail + field(5, b"\1" + b"\1\0\0\0\0" * 2049),
         many_rules(1) + tail + field(5, b"\2" + b"\5\0\1\0\1" * 2048),
         many_rules(1024) + field(2, numbers(*range(512))) + field(3, numbers(*range(512, 1024))) + field(4, b"")
