@@ -12,6 +12,8 @@ use Rattle.deployment.proofs.decode.Reads as decode
 use Rattle.deployment.proofs.commands.Reads as commands
 use Rattle.deployment.proofs.command_at.Reads as command-at
 use Rattle.deployment.proofs.record_of.Reads as record-of
+use Rattle.deployment.proofs.store.Reads as store
+use denote.Ref.{now}
 
 pub one-number : (κ : _) (a : _) (r s : ℕ) (e f : _) → number.Post κ a r e → number.Post κ a s f → r ≡ s
 one-number κ a r s e f p q = p ∙ sym q
@@ -39,3 +41,6 @@ one-command-at κ a r s e f p q = p ∙ sym q
 
 pub one-record : (κ : _) (a : _) (r s : List ℕ) (e f : _) → record-of.Post κ a r e → record-of.Post κ a s f → r ≡ s
 one-record κ a r s e f p q = p ∙ sym q
+
+pub one-store : (κ : _) (a : _) (r s : Unit) (e f : _) → store.Post κ a r e → store.Post κ a s f → now (e .0) ≡ now (f .0)
+one-store κ a r s e f p q = p ∙ sym q

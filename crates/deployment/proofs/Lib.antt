@@ -6,4 +6,5 @@ pub mod Fields
 pub mod ReadBack
 pub mod Reader
 pub mod FieldValues
+pub mod Storing
 pub mod Answers

@@ -1,9 +1,11 @@
 -- 01, "Turned away": entries that take lists take field values; what callers lend, and what is written there. Assumes nothing.
-use Prim.Native.Nat.{ℕ, _*_, _/_, _%_}
+use Prim.Native.Nat.{ℕ, _+_, _*_, _/_, _%_}
+use mathlib.Core.Path.{_≡_}
 use mathlib.Core.Bool.{Bool, true, false, cond}
 use mathlib.Core.List.{List, [], _∷_, _++_}
 use mathlib.Core.Option.{Option, none, some}
 use lib.ListN.{length, drop}
+use lib.Seq.{sets}
 use lib.Dec.{eqb, leb}
 use Rattle.policy.specs.Policy.{most-rules}
 use Rattle.policy.specs.Rule.{Rule}
@@ -15,6 +17,8 @@ use Rattle.deployment.specs.File.{Reading, accepted, refused}
 use Rattle.deployment.specs.declared.Why.{Why}
 use Rattle.deployment.specs.declared.Why.the-variants.{Length, TooMany, Room}
 use Rattle.deployment.specs.declared.Refusal.{Refusal}
+use Rattle.deployment.specs.declared.Written.{Written}
+use Rattle.deployment.specs.declared.Written.the-variants.{Bytes, Turned}
 
 -- "Entries that take lists take field values, and are told whether a keep list is absent or empty"
 pub record FieldValues : Type 0 where
@@ -82,21 +86,25 @@ unfoldable pub filled : List ℕ → List ℕ → List ℕ
 filled place output = output ++ drop (length output) place
 
 -- what an entry that writes leaves: how many bytes it wrote, or the refusal; and every byte of the place
-pub data Wrote : Type 0 where
-  wrote : ℕ → Wrote
-  turned : Refusal → Wrote
-
 pub record Writing : Type 0 where
-  pub answer : Wrote
+  pub answer : Written
   pub place : List ℕ
+
+abbrev pub leftBy : Written → List ℕ → Writing
+leftBy answer place = record { answer = answer; place = place }
+
+-- bytes stored from a position on, and the position behind them
+pub record Stored (before : List ℕ) (at : ℕ) (bytes after : List ℕ) (next : ℕ) : Type 0 where
+  pub place : after ≡ sets before at bytes
+  pub end : next ≡ at + length bytes
 
 -- "When turned away, every lent place keeps its bytes"
 unfoldable pub unwritten : Refusal → List ℕ → Writing
-unwritten refusal place = record { answer = turned refusal; place = place }
+unwritten refusal place = record { answer = Turned refusal; place = place }
 
 -- "and last 13": "lent room smaller than what is to be written", at the bytes needed
 unfoldable pub writing : List ℕ → List ℕ → Writing
 writing output place =
     cond (leb (length output) (length place))
-    (record { answer = wrote (length output); place = filled place output })
+    (record { answer = Bytes (length output); place = filled place output })
     (unwritten (record { why = Room; at = length output }) place)

@@ -3,6 +3,7 @@
 ghost use mathlib.Core.Path.{_≡_};
 ghost use mathlib.Core.List.{[], _∷_};
 ghost use lib.ListN.{length, getD};
+ghost use lib.Seq.{sets};
 ghost use Rattle.deployment.specs.Checked.{whyNumber};
 ghost use Rattle.deployment.specs.Bytes.{number, part};
 ghost use Rattle.deployment.specs.Values.{numbersOf, commandFrom, codedBytes};
@@ -54,6 +55,27 @@ impl Why {
 pub struct Refusal {
     pub why: Why,
     pub at: usize,
+}
+
+// How many bytes were written into a lent place, or why none were.
+pub enum Written {
+    Bytes(usize),
+    Turned(Refusal),
+}
+
+// Stores the value's bytes in the place, from `at` on; bytes that have no room there are left out.
+pub fn store(place: &mut [u8], at: usize, value: &[u8])
+    ensures { λ _. ⌜ now (place .exit) ≡ sets (now (place .entry)) at (now (value .entry)) ⌝ }
+{
+    if place.len() <= at {
+        return;
+    }
+    let room = place.len() - at;
+    let mut k = 0;
+    while k < value.len() && k < room {
+        place[at + k] = value[k];
+        k += 1;
+    }
 }
 
 // "All numbers are big-endian."

@@ -8,30 +8,18 @@ use denote.Ref.{now}
 use borrow.Fn.World.{ArgsD}
 use Rattle.deployment.specs.Contents.{Contents}
 use Rattle.deployment.specs.File.{accepted, readFile}
-use Rattle.deployment.specs.FieldValues.{FieldValues, Writing, writing}
+use Rattle.deployment.specs.FieldValues.{FieldValues, Writing, leftBy, writing}
 use Rattle.deployment.specs.Properties.{AreBytes}
 use Rattle.deployment.specs.Claims.{valuesOf, AreValues}
 use Rattle.deployment.specs.declared.Refusal.{Refusal}
+use Rattle.deployment.specs.declared.Written.{Written}
+use Rattle.deployment.specs.declared.Written.the-variants.{Bytes, Turned}
 use Rattle.reader.specs.Answers.{valuesGiven}
-use Rattle.writer.specs.Answers.{writtenValues, answerOf, leftBy}
+use Rattle.writer.specs.Answers.{writtenValues}
 use Rattle.writer.specs.Claims.{ReadsBack}
-use Rattle.writer.specs.declared.Written.{Written}
-use Rattle.writer.specs.declared.Written.the-variants.{Bytes, Turned}
 use Rattle.writer.proofs.Claims.{written-reads-back, accepted-written-again, turned-away-keeps}
 use Rattle.writer.proofs.write.{signature}
 use Rattle.writer.proofs.write.Reads as write
-
--- what an answer and a place leave says both
-same-answer : (r s : Written) → answerOf r ≡ answerOf s → r ≡ s
-unfolding answerOf
-same-answer (Bytes n) (Bytes m) e = let same : n ≡ m = cc in rw same
-same-answer (Bytes n) (Turned other) e = absurd (let z : _≡_ {A = ℕ} 0 1 = cc in omega arith)
-same-answer (Turned refusal) (Bytes m) e = absurd (let z : _≡_ {A = ℕ} 0 1 = cc in omega arith)
-same-answer (Turned refusal) (Turned other) e = let same : refusal ≡ other = cc in rw same
-
-same-left : (r s : Written) (p q : List ℕ) → leftBy r p ≡ leftBy s q → (r ≡ s) × (p ≡ q)
-unfolding leftBy
-same-left r s p q e = (same-answer r s (ap (λ (w : Writing). w .answer) e), ap (λ (w : Writing). w .place) e)
 
 -- the values and the place that a call is given
 abbrev values : (κ : _) → ArgsD signature κ → FieldValues
@@ -44,12 +32,13 @@ place κ a = now (a .1 .1 .1 .1 .1 .1 .1 .0)
 
 pub one-answer : (κ : _) (a : _) (r s : Written) (e f : _) → write.Post κ a r e → write.Post κ a s f
     → (r ≡ s) × (now (e .1 .1 .1 .1 .1 .1 .1 .0) ≡ now (f .1 .1 .1 .1 .1 .1 .1 .0))
-one-answer κ a r s e f p q = same-left r s _ _ (p ∙ sym q)
+one-answer κ a r s e f p q =
+    let same = p ∙ sym q in
+    (ap (λ (w : Writing). w .answer) same, ap (λ (w : Writing). w .place) same)
 
 -- "what it writes reads back as the same contents"
 pub what-is-written-reads-back : (κ : _) (a : _) (n : ℕ) (e : _) → write.Post κ a (Bytes n) e → AreValues (values κ a)
     → ReadsBack (values κ a) (place κ a) (now (e .1 .1 .1 .1 .1 .1 .1 .0)) n
-unfolding leftBy answerOf
 what-is-written-reads-back κ a n e p are =
     rw (ap (λ (w : Writing). w .place) p)
     (written-reads-back (values κ a) (place κ a) n are (sym (ap (λ (w : Writing). w .answer) p)))
@@ -64,7 +53,6 @@ an-accepted-file-is-written-again κ a r e p file c bytes read same =
 -- "When turned away, every lent place keeps its bytes"
 pub turned-away-keeps-the-place : (κ : _) (a : _) (refusal : Refusal) (e : _) → write.Post κ a (Turned refusal) e
     → now (e .1 .1 .1 .1 .1 .1 .1 .0) ≡ place κ a
-unfolding leftBy answerOf
 turned-away-keeps-the-place κ a refusal e p =
     ap (λ (w : Writing). w .place) p
     ∙ turned-away-keeps (values κ a) (place κ a) refusal (sym (ap (λ (w : Writing). w .answer) p))

@@ -17,8 +17,9 @@ use Rattle.deployment.specs.Bytes.{chunks}
 use Rattle.deployment.specs.Values.{rule-bytes, listFits, scriptFits}
 use Rattle.deployment.specs.Contents.{Contents, ruleRead, keepRead, scriptRead}
 use Rattle.deployment.specs.File.{Reading, accepted, refused, fileOf}
-use Rattle.deployment.specs.FieldValues.{FieldValues, wrote, turned, Writing, unwritten, writing, filled, rulesRead, catalogueValue, policyValue, keepValue, scriptValue, valuesRead, atZero, readValues}
+use Rattle.deployment.specs.FieldValues.{FieldValues, Writing, unwritten, writing, filled, rulesRead, catalogueValue, policyValue, keepValue, scriptValue, valuesRead, atZero, readValues}
 use Rattle.deployment.specs.declared.Refusal.{Refusal}
+use Rattle.deployment.specs.declared.Written.the-variants.{Bytes, Turned}
 use Rattle.deployment.specs.declared.Why.the-variants.{Room}
 use Rattle.deployment.proofs.Tests.{tested}
 use Rattle.deployment.proofs.FieldValues.{values-written-again}
@@ -37,7 +38,7 @@ use Rattle.writer.specs.Claims.{
 -- The three answers to field values.
 module _ {ℓ} (P : Writing → Type ℓ) (place : List ℕ) where
   abbrev Written : List ℕ → Type ℓ
-  Written output = length output ≤ length place → P (record { answer = wrote (length output); place = filled place output })
+  Written output = length output ≤ length place → P (record { answer = Bytes (length output); place = filled place output })
 
   abbrev NoRoom : List ℕ → Type ℓ
   NoRoom output = length place < length output → P (unwritten (record { why = Room; at = length output }) place)
@@ -60,13 +61,13 @@ module _ {ℓ} (P : Writing → Type ℓ) (place : List ℕ) where
       go (accepted c) e = writing-cases (fileOf c) (fits c e) (small c e)
       go (refused refusal) e = away refusal e
 
-wrote-turned {ℓ} : {A : Type ℓ} {n : ℕ} {refusal : Refusal} → wrote n ≡ turned refusal → A
-wrote-turned e = absurd (let z : _≡_ {A = ℕ} 0 1 = cc in omega arith)
+bytes-turned {ℓ} : {A : Type ℓ} {n : ℕ} {refusal : Refusal} → Bytes n ≡ Turned refusal → A
+bytes-turned e = absurd (let z : _≡_ {A = ℕ} 0 1 = cc in omega arith)
 
 pub turned-away-keeps : TurnedAwayKeeps
 unfolding unwritten
 turned-away-keeps v place refusal =
-    written-cases (λ w. w .answer ≡ turned refusal → w .place ≡ place) place v (λ c read fits. wrote-turned) (λ c read small e. refl)
+    written-cases (λ w. w .answer ≡ Turned refusal → w .place ≡ place) place v (λ c read fits. bytes-turned) (λ c read small e. refl)
     (λ other read e. refl)
 
 pub refused-for-values : RefusedForValues
@@ -76,7 +77,7 @@ refused-for-values v place refusal e = rw (e, writtenValues)
 pub written-reads-back : WrittenReadsBack
 unfolding filled unwritten
 written-reads-back v place n are =
-    written-cases (λ w. w .answer ≡ wrote n → ReadsBack v place (w .place) n) place v
+    written-cases (λ w. w .answer ≡ Bytes n → ReadsBack v place (w .place) n) place v
     (λ c read fits e.
     let long : length (fileOf c) ≡ n = cc in
     let valid = values-written-again v c are read in
@@ -86,7 +87,7 @@ written-reads-back v place n are =
       back = rw (take-at (fileOf c) (drop (length (fileOf c)) place) n long) (read-back c (valid .0) .1);
       rest = rw (← long) (drop-at (fileOf c) (drop (length (fileOf c)) place) (length (fileOf c)) refl);
     })
-    (λ c read small e. wrote-turned (sym e)) (λ refusal read e. wrote-turned (sym e))
+    (λ c read small e. bytes-turned (sym e)) (λ refusal read e. bytes-turned (sym e))
 
 pub accepted-written-again : AcceptedWrittenAgain
 unfolding writtenValues
@@ -148,14 +149,14 @@ not-for-room v at = go (valuesRead v) (values-below v)
 pub refused-for-room : RefusedForRoom
 unfolding unwritten
 refused-for-room v place at = (
-  written-cases (λ w. w .answer ≡ turned (record { why = Room; at = at }) → Small) place v (λ c read fits. wrote-turned)
+  written-cases (λ w. w .answer ≡ Turned (record { why = Room; at = at }) → Small) place v (λ c read fits. bytes-turned)
       (λ c read small e.
       let same : _≡_ {A = Refusal} (record { why = Room; at = at }) (record { why = Room; at = length (fileOf c) }) = cc in
       (c, read, small, ap (λ (r : Refusal). r .at) same))
       (λ refusal read e.
       let same : refusal ≡ record { why = Room; at = at } = cc in absurd (not-for-room v at (rw same at read))),
   λ h.
-      written-cases (λ w. w .answer ≡ turned (record { why = Room; at = at })) place v
+      written-cases (λ w. w .answer ≡ Turned (record { why = Room; at = at })) place v
       (λ c read fits. let same : c ≡ h .0 = cc in absurd (omega (arith, h .2, ap (λ (d : Contents). length (fileOf d)) same)))
       (λ c read small. let same : c ≡ h .0 = cc in rw (same, ← h .3))
       (λ refusal read. absurd (let z : _≡_ {A = ℕ} 0 1 = cc in omega arith)),

@@ -24,21 +24,22 @@ use Rattle.deployment.specs.File.{
   ifThere,
   fileOf,
 }
-use Rattle.deployment.specs.FieldValues.{FieldValues, unwritten, writing, valuesRead, atZero, readValues}
+use Rattle.deployment.specs.FieldValues.{FieldValues, leftBy, Stored, unwritten, writing, valuesRead, atZero, readValues}
 use Rattle.deployment.specs.Properties.{AreBytes, IfThere}
 use Rattle.deployment.specs.Claims.{valuesOf, AreValues}
 use Rattle.deployment.specs.declared.Why.{Why}
 use Rattle.deployment.specs.declared.Why.the-variants.{Room}
+use Rattle.deployment.specs.declared.Written.the-variants.{Bytes, Turned}
 use Rattle.deployment.proofs.Bytes.{chunks-joined, length-joined}
 use Rattle.deployment.proofs.Values.{none-some, length-rule}
 use Rattle.deployment.proofs.FieldValues.{values-written-again}
+use Rattle.deployment.proofs.Storing.{stored-fills}
 use Rattle.deployment.proofs.ReadBack.{length-field, valid-fits}
 use Rattle.reader.specs.Answers.{checking, given, valuesGiven}
 use Rattle.reader.specs.declared.Checking.the-variants.{Good, Bad}
 use Rattle.reader.proofs.Given.{passed, failed}
-use Rattle.writer.specs.Answers.{writtenValues, answerOf, leftBy, Stored, rulesBytes, fieldIf, needed}
-use Rattle.writer.specs.declared.Written.the-variants.{Bytes, Turned}
-use Rattle.writer.proofs.Pieces.{stored-fills, length-if, length-all-rules}
+use Rattle.writer.specs.Answers.{writtenValues, rulesBytes, fieldIf, needed}
+use Rattle.writer.proofs.Pieces.{length-if, length-all-rules}
 
 -- The fields of contents, from their field values.
 rules-file : (catalogue : List Rule) (rules : List ℕ) → joined (map ruleBytes catalogue) ≡ rules
@@ -138,20 +139,20 @@ module _ (lent : Lent) where
   -- The three answers.
   pub turned-away : (place : List ℕ) (why : Why) → Bad why ≡ checking (valuesRead values)
       → leftBy (Turned (record { why = why; at = 0 })) place ≡ writtenValues values place
-  unfolding leftBy answerOf writtenValues unwritten readValues atZero
+  unfolding writtenValues unwritten readValues atZero
   turned-away place why e =
       let read : readValues values ≡ refused (record { why = why; at = 0 }) = ap atZero (failed (valuesRead values) why e) in
       rw (read, writtenValues)
 
   pub no-room : (place : List ℕ) (n : ℕ) → Passed → n ≡ size → length place < n
       → leftBy (Turned (record { why = Room; at = n })) place ≡ writtenValues values place
-  unfolding leftBy answerOf writtenValues writing unwritten
+  unfolding writtenValues writing unwritten
   no-room place n h e small =
       rw (h .read, writtenValues) (rw (h .file, length-fields, ← e, lt-leb n (length place) small))
 
   pub all-put : (place now : List ℕ) (end : ℕ) → Passed → size ≤ length place → Stored place 0 fields now end
       → leftBy (Bytes end) now ≡ writtenValues values place
-  unfolding leftBy answerOf writtenValues writing
+  unfolding writtenValues writing
   all-put place now end h room put =
       let fills = stored-fills put (omega (arith, length-fields)) in
       let ends : end ≡ size = omega (arith, put .end, length-fields) in

@@ -1,63 +1,20 @@
--- Bytes stored one piece behind the other: a run of stores behind a run of stores is one run of both, so what is put piece by piece is
--- what all pieces joined fill. Assumes nothing.
+-- The pieces that the writer puts: a field, its head first, and a field for each rule. Assumes nothing.
 use Prim.Native.Nat.{ℕ, zero, suc, _+_, _*_, _-_, _/_, _%_, _≤_, _<_}
-use native.Mathlib.Nat.{add-zero, add-suc, suc-add, zero-mul, suc-mul, add-comm}
+use native.Mathlib.Nat.{suc-add, zero-mul, suc-mul, add-comm}
 use native.Mathlib.Numerals.{add-one}
 use native.Mathlib.Omega.{arith}
 use mathlib.Core.Path.{_≡_, refl, _∙_, ap}
 use mathlib.Core.Bool.{Bool, true, false}
 use mathlib.Core.List.{List, [], _∷_, _++_}
-use lib.ListN.{length, take, drop, set, getD, length-append, length-drop}
-use lib.Seq.{sets, sets-eq, length-sets, take-suc, take-length, length-take-le, drop-drop}
+use lib.ListN.{length, take, drop, set, length-append, length-drop}
+use lib.Seq.{sets, length-take-le, drop-drop}
 use Rattle.deployment.specs.Bytes.{bytesOf, part, chunks, joined}
 use Rattle.deployment.specs.File.{rule-tag, fieldBytes}
-use Rattle.deployment.specs.FieldValues.{filled}
 use Rattle.deployment.proofs.Bytes.{length-part}
 use Rattle.deployment.proofs.Records.{part-between}
 use Rattle.deployment.proofs.Fields.{joined-snoc, map-snoc}
 use Rattle.deployment.proofs.ReadBack.{length-field}
-use Rattle.writer.specs.Answers.{Stored, rulesBytes, fieldIf, bytesIf}
-
-sets-sets : (l : List ℕ) (i : ℕ) (u v : List ℕ) → sets (sets l i u) (i + length u) v ≡ sets l i (u ++ v)
-sets-sets l i [] v = rw add-zero
-sets-sets l i (b ∷ u) v = rw (add-suc, ← suc-add) (sets-sets (set l i b) (suc i) u v)
-
--- Pieces one behind the other.
-module _ {old written place : List ℕ} {at : ℕ} (so-far : Stored old 0 written place at) where
-  -- the place keeps its length
-  pub stored-long : length place ≡ length old
-  stored-long = ap length (so-far .place) ∙ length-sets old 0 written
-
-  pub stored-more : {piece next : List ℕ} {end : ℕ} → Stored place at piece next end → Stored old 0 (written ++ piece) next end
-  stored-more {piece} put =
-      record {
-        place = put .place ∙ rw (so-far .place, so-far .end) (sets-sets old 0 written piece);
-        end = omega (arith, put .end, so-far .end, length-append written piece);
-      }
-
-  -- there is room behind it
-  pub stored-room : (size : ℕ) → length written + size ≤ length old → at + size ≤ length place
-  stored-room size room = omega (arith, so-far .end, stored-long)
-
-  -- in the end it fills the first bytes
-  pub stored-fills : length written ≤ length old → place ≡ filled old written
-  unfolding filled
-  stored-fills room =
-      let from : 0 + length written ≡ length written = omega arith in
-      so-far .place ∙ sets-eq written old 0 (omega arith) ∙ rw from
-
--- A copy, byte by byte.
-pub copied-more : (place : List ℕ) (at : ℕ) (value : List ℕ) (k : ℕ) → k < length value
-    → set (sets place at (take k value)) (at + k) (getD value k 0) ≡ sets place at (take (k + 1) value)
-copied-more place at value k h =
-    let long : length (take k value) ≡ k = length-take-le k value (omega arith) in
-    rw (add-one, take-suc value k 0) (rw long at (sets-sets place at (take k value) (getD value k 0 ∷ [])))
-
-pub copied-all : (place : List ℕ) (at : ℕ) (value : List ℕ) (k : ℕ) → k ≤ length value → length value ≤ k
-    → sets place at (take k value) ≡ sets place at value
-copied-all place at value k h g =
-    let all : k ≡ length value = omega arith in
-    rw (all, take-length)
+use Rattle.writer.specs.Answers.{rulesBytes, fieldIf, bytesIf}
 
 -- A field: its head, and then its value.
 pub field-put : (place : List ℕ) (at tag : ℕ) (value : List ℕ) → tag < 256 → length value < 65536

@@ -1,33 +1,16 @@
 -- The writer's answer, and every byte of the lent place. Assumes nothing.
 use Prim.Native.Nat.{ℕ, _+_, _*_, _/_}
-use mathlib.Core.Path.{_≡_}
 use mathlib.Core.Bool.{Bool, cond}
 use mathlib.Core.List.{List, [], map}
 use lib.ListN.{length}
-use lib.Seq.{sets}
 use Rattle.deployment.specs.Bytes.{chunks, joined}
 use Rattle.deployment.specs.Values.{rule-bytes}
 use Rattle.deployment.specs.File.{accepted, refused, rule-tag, head-bytes, fieldBytes, fileOf}
-use Rattle.deployment.specs.FieldValues.{FieldValues, Wrote, wrote, turned, Writing, unwritten, writing, readValues}
-use Rattle.writer.specs.declared.Written.{Written}
-use Rattle.writer.specs.declared.Written.the-variants.{Bytes, Turned}
+use Rattle.deployment.specs.FieldValues.{FieldValues, Writing, unwritten, writing, readValues}
 
 -- the writer's answer to field values, and the lent place then
 unfoldable pub writtenValues : FieldValues → List ℕ → Writing
 writtenValues v place = elim (readValues v) [ accepted c ↦ writing (fileOf c) place | refused refusal ↦ unwritten refusal place ]
-
--- the answer as the code gives it, with the place
-unfoldable pub answerOf : Written → Wrote
-answerOf (Bytes n) = wrote n
-answerOf (Turned refusal) = turned refusal
-
-unfoldable pub leftBy : Written → List ℕ → Writing
-leftBy answer place = record { answer = answerOf answer; place = place }
-
--- bytes stored from a position on, and the position behind them
-pub record Stored (before : List ℕ) (at : ℕ) (bytes after : List ℕ) (next : ℕ) : Type 0 where
-  pub place : after ≡ sets before at bytes
-  pub end : next ≡ at + length bytes
 
 -- the fields of the first rules of a field value, as many as are asked for
 unfoldable pub rulesBytes : ℕ → List ℕ → List ℕ

@@ -7,11 +7,12 @@ use mathlib.Core.List.{List}
 use lib.ListN.{length, take, drop}
 use Rattle.deployment.specs.Contents.{Contents}
 use Rattle.deployment.specs.File.{accepted, refused, readFile, fileOf}
-use Rattle.deployment.specs.FieldValues.{FieldValues, wrote, turned, writing, readValues}
+use Rattle.deployment.specs.FieldValues.{FieldValues, writing, readValues}
 use Rattle.deployment.specs.Properties.{AreBytes}
 use Rattle.deployment.specs.Claims.{valuesOf, AreValues}
 use Rattle.deployment.specs.declared.Why.the-variants.{Room}
 use Rattle.deployment.specs.declared.Refusal.{Refusal}
+use Rattle.deployment.specs.declared.Written.the-variants.{Bytes, Turned}
 use Rattle.writer.specs.Answers.{writtenValues}
 
 -- "what it writes reads back as the same contents", and "the rest keep theirs"
@@ -23,7 +24,7 @@ pub record ReadsBack (v : FieldValues) (before after : List ℕ) (n : ℕ) : Typ
 
 abbrev pub WrittenReadsBack : Type 0
 WrittenReadsBack =
-    (v : FieldValues) (place : List ℕ) (n : ℕ) → AreValues v → (writtenValues v place) .answer ≡ wrote n
+    (v : FieldValues) (place : List ℕ) (n : ℕ) → AreValues v → (writtenValues v place) .answer ≡ Bytes n
     → ReadsBack v place ((writtenValues v place) .place) n
 
 -- "those of an accepted file, written, give that file"
@@ -35,18 +36,18 @@ AcceptedWrittenAgain =
 -- "When turned away, every lent place keeps its bytes"
 abbrev pub TurnedAwayKeeps : Type 0
 TurnedAwayKeeps =
-    (v : FieldValues) (place : List ℕ) (refusal : Refusal) → (writtenValues v place) .answer ≡ turned refusal
+    (v : FieldValues) (place : List ℕ) (refusal : Refusal) → (writtenValues v place) .answer ≡ Turned refusal
     → (writtenValues v place) .place ≡ place
 
 -- Refusal 13: "lent room smaller than what is to be written", at the bytes needed, and only where the values are accepted
 abbrev pub RefusedForRoom : Type 0
 RefusedForRoom =
     (v : FieldValues) (place : List ℕ) (at : ℕ)
-    → ((writtenValues v place) .answer ≡ turned (record { why = Room; at = at }))
+    → ((writtenValues v place) .answer ≡ Turned (record { why = Room; at = at }))
     ↔ ((c : Contents) × (readValues v ≡ accepted c) × (length place < length (fileOf c)) × (at ≡ length (fileOf c)))
 
 -- Values that are turned away are turned away with their own refusal, however large the place is.
 abbrev pub RefusedForValues : Type 0
 RefusedForValues =
     (v : FieldValues) (place : List ℕ) (refusal : Refusal) → readValues v ≡ refused refusal
-    → (writtenValues v place) .answer ≡ turned refusal
+    → (writtenValues v place) .answer ≡ Turned refusal

@@ -3,12 +3,14 @@
 ghost use mathlib.Core.Path.{_≡_};
 ghost use Prim.Native.Nat.{_+_, _*_, _/_, _≤_, _<_};
 ghost use lib.ListN.{length};
-ghost use lib.Seq.{sets};
 ghost use Rattle.deployment.specs.File.{fieldBytes};
+ghost use Rattle.deployment.specs.FieldValues.{leftBy, Stored};
 ghost use Rattle.reader.specs.Answers.{valuesGiven};
-ghost use Rattle.writer.specs.Answers.{writtenValues, leftBy, Stored, rulesBytes, fieldIf, bytesIf, needed};
+ghost use Rattle.writer.specs.Answers.{writtenValues, rulesBytes, fieldIf, bytesIf, needed};
 use deployment::Refusal;
 use deployment::Why;
+use deployment::Written;
+use deployment::store;
 use reader::Checking;
 use reader::file::HEAD_BYTES;
 use reader::file::INITIAL_TAG;
@@ -18,12 +20,6 @@ use reader::file::SCRIPT_TAG;
 use reader::file::TARGET_TAG;
 use reader::lists::values_checked;
 use reader::values::RULE_BYTES;
-
-// How many bytes were written, or why none were.
-pub enum Written {
-    Bytes(usize),
-    Turned(Refusal),
-}
 
 // Writes the file of these field values into the first bytes of `place`; the keep list and the script are there if their `has_` says so.
 // When turned away, `place` keeps its bytes.
@@ -71,18 +67,6 @@ pub fn write(
     Written::Bytes(at)
 }
 
-// Copies the value's bytes into the place, from `at` on.
-fn copy(place: &mut [u8], at: usize, value: &[u8])
-    requires { ⌜ at + length (now value) ≤ length (now place) ⌝ }
-    ensures { λ _. ⌜ now (place .exit) ≡ sets (now (place .entry)) at (now (value .entry)) ⌝ }
-{
-    let mut k = 0;
-    while k < value.len() {
-        place[at + k] = value[k];
-        k += 1;
-    }
-}
-
 // "a one-byte tag, a two-byte length, the value", from `at` on; the answer is the position behind it.
 fn put_field(place: &mut [u8], at: usize, tag: u8, value: &[u8]) -> usize
     requires { ⌜ (at + (3 + length (now value)) ≤ length (now place)) × (length (now value) < 65536) ⌝ }
@@ -93,7 +77,7 @@ fn put_field(place: &mut [u8], at: usize, tag: u8, value: &[u8]) -> usize
     place[at + 1] = (size / 256) as u8;
     place[at + 2] = (size % 256) as u8;
     let start = at + HEAD_BYTES;
-    copy(place, start, value);
+    store(place, start, value);
     start + size
 }
 

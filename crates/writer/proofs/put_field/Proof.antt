@@ -33,21 +33,21 @@ slice-write-place-3 c = simp length-set (omega arith)
 add-start : tie.Need-add-start
 add-start c = search needs
 
-copy-requires : tie.Need-copy-requires
-copy-requires c κs = simp length-set (omega arith)
+store-requires : tie.Need-store-requires
+store-requires c κs = search needs
 
 add-result : tie.Need-add-result
 add-result c = search needs
 
 same-length : tie.Need-same-length
-same-length c = c .before .before .copy .kept .0 ∙ simp length-set
+same-length c = c .before .before .store .kept .0 ∙ simp length-set
 
 returns : tie.Need-returns
 returns c =
     let start = c .before .before .before .before .before .before in
     let args = start .args in
     record {
-      place = c .before .before .copy .ensures
+      place = c .before .before .store .ensures
           ∙ field-put (args .place .now) (args .at) (args .tag) (args .value .now) (omega (arith, start .fits .tag)) (omega arith);
       end = omega (arith, length-field (args .tag) (args .value .now));
     }
@@ -64,7 +64,7 @@ put-field-spec =
     add-place-2
     slice-write-place-3
     add-start
-    copy-requires
+    store-requires
     add-result
     same-length
     returns)

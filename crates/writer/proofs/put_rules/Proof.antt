@@ -5,8 +5,10 @@ use native.Mathlib.Omega.{arith}
 use mathlib.Core.Path.{_≡_, refl}
 use lib.ListN.{length}
 use Rattle.deployment.specs.Bytes.{chunks, joined}
-use Rattle.writer.specs.Answers.{Stored, rulesBytes}
-use Rattle.writer.proofs.Pieces.{stored-long, stored-more, length-rules, length-rule-at, rules-more}
+use Rattle.deployment.specs.FieldValues.{Stored}
+use Rattle.writer.specs.Answers.{rulesBytes}
+use Rattle.deployment.proofs.Storing.{stored-long, stored-more}
+use Rattle.writer.proofs.Pieces.{length-rules, length-rule-at, rules-more}
 use Rattle.writer.proofs.put_rules.Statement.{statement}
 use Rattle.writer.proofs.put_rules.Tie as tie
 

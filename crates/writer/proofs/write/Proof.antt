@@ -6,7 +6,8 @@ use mathlib.Core.Path.{sym, _∙_}
 use lib.ListN.{length, length-append}
 use Rattle.deployment.proofs.Bytes.{elements-are-bytes}
 use Rattle.deployment.proofs.ReadBack.{length-field}
-use Rattle.writer.proofs.Pieces.{stored-more, stored-room, length-if, length-all-rules}
+use Rattle.deployment.proofs.Storing.{stored-more, stored-room}
+use Rattle.writer.proofs.Pieces.{length-if, length-all-rules}
 use Rattle.writer.proofs.Files.{Lent, Passed, size, values-passed, turned-away, no-room, all-put}
 use borrow.Author.Needs.{needs}
 use Rattle.writer.proofs.write.Statement.{statement}
@@ -62,6 +63,9 @@ begun c = c .before .before .before .before .before .before
 room : (c : tie.After-put-rules) → (size (lent (begun c)) ≤ length (start (begun c) .args .place .now)) × (size (lent (begun c)) ≤ 44045)
 room c = (omega (arith, c .before .before .before .bytes-needed .ensures), passed (c .before .before .before .before) .few)
 
+put-rules-requires : tie.Need-put-rules-requires
+put-rules-requires c κs = search needs
+
 values-checked-requires : tie.Need-values-checked-requires
 values-checked-requires c κs = search needs
 
@@ -84,9 +88,6 @@ returns-2 c =
     let at = c .before .before in
     no-room (lent (at .before .before)) (start (at .before .before) .args .place .now) _ (passed at) (c .before .bytes-needed .ensures)
     (c .if1 .taken)
-
-put-rules-requires : tie.Need-put-rules-requires
-put-rules-requires c κs = search needs
 
 put-field-requires : tie.Need-put-field-requires
 put-field-requires c κs =
