@@ -273,7 +273,7 @@ pub below-then : {A B : Type 0} (read : Checked A) (next : A → Checked B) → 
 below-then read next h others = each-then (λ a. Unit {0}) (λ b. Unit {0}) Below read next h (λ a t. others a)
 
 head-below : (f : Fields) (left : List ℕ) → AllBelow (fieldRead f left)
-unfolding fieldRead whyNumber
+unfolding fieldRead
 head-below f left =
     tested AllBelow (leb head-bytes (length left)) (λ e. omega arith) λ e.
     tested AllBelow (mem (tagOf left) (nextTags f)) (λ e. omega arith) λ e.
@@ -282,19 +282,15 @@ head-below f left =
     tested AllBelow (leb (head-bytes + sizeOf left) (length left)) (λ e. omega arith) λ e. tt
 
 pub rule-below : (c : List Rule) (value : List ℕ) → AllBelow (ruleRead c value)
-unfolding whyNumber
 rule-below c value = rule-tested AllBelow c value (λ h. omega arith) (λ h k. omega arith) (λ h k. tt)
 
 pub policy-below : (size : ℕ) (value : List ℕ) → AllBelow (policyRead size value)
-unfolding whyNumber
 policy-below size value = policy-tested AllBelow size value (λ h. omega arith) (λ h k. omega arith) (λ h. tt)
 
 pub keep-below : (i t value : List ℕ) → AllBelow (keepRead i t value)
-unfolding whyNumber
 keep-below i t value = keep-tested AllBelow i t value (λ h. omega arith) (λ h k. tt)
 
 pub script-below : (value : List ℕ) → AllBelow (scriptRead value)
-unfolding whyNumber
 script-below value = script-tested AllBelow value (λ h. omega arith) (λ s h. tt)
 
 branch {ℓ} : {A : Type 0} (P : A → Type ℓ) (test : Bool) {x y : A} → P x → P y → P (elim test [ true ↦ x | false ↦ y ])
@@ -320,7 +316,7 @@ ReadsBelow (accepted c) = Unit {0}
 ReadsBelow (refused refusal) = Below (refusal .why)
 
 reading-below : (n : ℕ) (f : Fields) (at : ℕ) (left : List ℕ) → ReadsBelow (readFrom n f at left)
-unfolding readFrom atEnd whyNumber
+unfolding readFrom atEnd
 reading-below n f at [] = byOption (f .target) (λ e. rw (e, atEnd) (omega arith)) (λ t e. rw (e, atEnd) tt)
 reading-below (suc n) f at (x ∷ l) = reading-below n f (suc at) l
 reading-below zero f at (x ∷ l) =
@@ -332,7 +328,7 @@ refused-at : {one other : Refusal} → refused one ≡ refused other → one ≡
 refused-at e = cc
 
 pub refused-without-script : RefusedWithoutScript
-unfolding readToJudge needsScript readFile whyNumber
+unfolding readToJudge needsScript readFile
 refused-without-script file at = (
   λ e. go (readFile file) refl e (reading-below 0 nothing 0 file),
   λ h. rw (h .1, h .2, needsScript, h .3),

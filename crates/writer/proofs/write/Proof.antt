@@ -13,6 +13,10 @@ use borrow.Author.Needs.{needs}
 use Rattle.writer.proofs.write.Statement.{statement}
 use Rattle.writer.proofs.write.Tie as tie
 
+-- the room is there before the first byte is put
+put-rules-requires : tie.Need-put-rules-requires
+put-rules-requires c κs = search needs
+
 abbrev start : tie.After-values-checked → tie.Start
 start c = c .before .before .before .before .before .before .before
 
@@ -62,9 +66,6 @@ begun c = c .before .before .before .before .before .before
 -- there is room for all, and not much is needed
 room : (c : tie.After-put-rules) → (size (lent (begun c)) ≤ length (start (begun c) .args .place .now)) × (size (lent (begun c)) ≤ 44045)
 room c = (omega (arith, c .before .before .before .bytes-needed .ensures), passed (c .before .before .before .before) .few)
-
-put-rules-requires : tie.Need-put-rules-requires
-put-rules-requires c κs = search needs
 
 values-checked-requires : tie.Need-values-checked-requires
 values-checked-requires c κs = search needs
