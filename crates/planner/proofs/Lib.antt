@@ -1,7 +1,7 @@
 -- Laws that the proofs of the planners cite.
 pub mod Sending
-pub mod AppendDelete
 pub mod Marks
+pub mod AppendDelete
 pub mod Places
 pub mod Looking
 pub mod Edits
