@@ -1,5 +1,7 @@
 -- Laws that the proofs of the planners cite.
 pub mod Sending
+pub mod LentPlace
+pub mod GivenLists
 pub mod Marks
 pub mod AppendDelete
 pub mod Places
