@@ -12,3 +12,4 @@ pub mod StageOne
 pub mod FirstStage
 pub mod SecondStage
 pub mod PlanTwo
+pub mod Claims
