@@ -13,3 +13,4 @@ pub mod FirstStage
 pub mod SecondStage
 pub mod PlanTwo
 pub mod Claims
+pub mod Answers
