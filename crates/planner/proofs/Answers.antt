@@ -15,10 +15,10 @@ use Rattle.deployment.proofs.Reader.{written-again}
 use Rattle.deployment.proofs.FieldValues.{values-written-again}
 use Rattle.reader.specs.Answers.{valuesGiven}
 use Rattle.planner.specs.Plans.{Made, madeOne, madeTwo, Left, leftBy, planned}
-use Rattle.planner.specs.Claims.{HoldsOne, OneHolds, HoldsTwo, TwoHolds}
+use Rattle.planner.specs.Claims.{HoldsOne, HoldsTwo}
 use Rattle.planner.specs.declared.Plan.{Plan}
 use Rattle.planner.specs.declared.Planned.{Planned}
-use Rattle.planner.specs.declared.Planned.the-variants.{Done, Turned}
+use Rattle.planner.specs.declared.Planned.the-variants.{Done}
 use Rattle.planner.proofs.Claims.{one-holds, two-holds}
 use Rattle.planner.proofs.plan_one_values.{signature}
 use Rattle.planner.proofs.plan_one_file.Reads as one-file

@@ -1,17 +1,15 @@
 -- The claims of the planners. The idea: a script that leads from a policy names rules of the catalogue and places of lists that are no longer
 -- than the catalogue, so all its numbers have two bytes and its field reads back. Assumes nothing.
-use Prim.Native.Nat.{ℕ, suc, _+_, _*_, _≤_, _<_}
+use Prim.Native.Nat.{ℕ, _≤_, _<_}
 use native.Mathlib.Omega.{arith}
-use mathlib.Core.Path.{_≡_, refl, sym, _∙_, ap}
+use mathlib.Core.Path.{_≡_, refl, sym, ap}
 use mathlib.Core.Logic.{inl, inr, _⊎_, ⊎-elim}
-use mathlib.Core.Bool.{true, cond}
-use mathlib.Core.List.{List, [], _∷_, _++_, List·Memᴰ, List·Memᴰ·cases-cons, List·Memᴰ·not-nil}
-use mathlib.Core.Option.{Option, some}
-use borrow.Author.Tests.{eqb-true, le-leb, lt-leb, leb-true, leb-false}
+use mathlib.Core.Bool.{true}
+use mathlib.Core.List.{List, [], _∷_, List·Memᴰ, List·Memᴰ·cases-cons, List·Memᴰ·not-nil}
+use borrow.Author.Tests.{eqb-true, lt-leb, leb-false}
 use lib.Dec.{eqb, leb}
 use lib.ListN.{length, drop, length-append}
 use lib.Seq.{drop-at}
-use Rattle.policy.specs.Policy.{most-rules}
 use Rattle.policy.specs.Command.{coded, commandType, ofType}
 use Rattle.policy.specs.AppendDelete.{planOne}
 use Rattle.policy.specs.InsertDeleteMove.{planTwo}
@@ -28,19 +26,18 @@ use Rattle.policy.proofs.Fewest.{plan-one-fewest}
 use Rattle.policy.proofs.InsertDeleteMove.{plan-two-count, plan-two-reaches}
 use Rattle.policy.proofs.Plans.{plan-one-verdict, plan-one-keeps-the-default, plan-two-verdict, plan-two-changes-once, plans-fit}
 use Rattle.deployment.specs.Bytes.{number, part}
-use Rattle.deployment.specs.Values.{Script, scriptBytes, scriptOf}
+use Rattle.deployment.specs.Values.{scriptBytes}
 use Rattle.deployment.specs.Contents.{Contents}
-use Rattle.deployment.specs.File.{Reading, accepted, refused, script-tag}
+use Rattle.deployment.specs.File.{accepted, refused, script-tag}
 use Rattle.deployment.specs.FieldValues.{filled}
 use Rattle.deployment.specs.Properties.{Scripted, Valid}
 use Rattle.deployment.specs.declared.Why.the-variants.{Room}
 use Rattle.deployment.specs.declared.Refusal.{Refusal}
 use Rattle.deployment.proofs.Values.{length-script, script-read}
 use Rattle.deployment.proofs.ReadBack.{tag-read, size-read, value-read}
-use Rattle.planner.specs.Plans.{Made, scriptField, planOf, madeOneOf, madeOne, madeTwoOf, madeTwo, Left, leftBy, sentPlan, placedPlan, planned}
-use Rattle.planner.specs.Claims.{Holds, HoldsOne, OneHolds, HoldsTwo, TwoHolds, TurnedAwayKeeps, RefusedForRoom, RoomForEvery}
+use Rattle.planner.specs.Plans.{Made, scriptField, planOf, madeOneOf, madeOne, madeTwoOf, madeTwo, sentPlan, placedPlan, planned}
+use Rattle.planner.specs.Claims.{Holds, OneHolds, TwoHolds, TurnedAwayKeeps, RefusedForRoom, RoomForEvery}
 use Rattle.planner.specs.declared.Plan.{Plan}
-use Rattle.planner.specs.declared.Planned.{Planned}
 use Rattle.planner.specs.declared.Planned.the-variants.{Done, Turned}
 use Rattle.planner.proofs.Sending.{length-field}
 

@@ -15,7 +15,7 @@ use Rattle.deployment.specs.Values.{numbersOf, numbersBytes}
 use Rattle.deployment.specs.Contents.{Contents}
 use Rattle.deployment.specs.File.{Reading, accepted, refused, readFile}
 use Rattle.deployment.specs.FieldValues.{FieldValues, valuesRead, atZero, readValues}
-use Rattle.deployment.specs.Properties.{AreBytes, IfThere, Listed, Valid}
+use Rattle.deployment.specs.Properties.{AreBytes, IfThere, Valid}
 use Rattle.deployment.specs.Claims.{valuesOf, AreValues}
 use Rattle.deployment.specs.declared.Refusal.{Refusal}
 use Rattle.deployment.specs.declared.Why.{Why}
@@ -23,14 +23,14 @@ use Rattle.deployment.proofs.Values.{none-some, numbers-read}
 use Rattle.deployment.proofs.FieldValues.{values-written-again}
 use Rattle.deployment.proofs.ReadBack.{read-back}
 use Rattle.reader.specs.Answers.{checking, there, shown, fileRead, valueAt, given, valuesGiven}
-use Rattle.reader.specs.Claims.{ListStands, Stands}
+use Rattle.reader.specs.Claims.{ListStands}
 use Rattle.reader.specs.declared.Checking.the-variants.{Good, Bad}
 use Rattle.reader.specs.declared.Span.{Span}
 use Rattle.reader.specs.declared.Layout.{Layout}
 use Rattle.reader.specs.declared.FileRead.the-variants as file-read
 use Rattle.reader.proofs.Given.{passed, failed}
 use Rattle.reader.proofs.FileAnswers.{accepted-file}
-use Rattle.planner.specs.Plans.{Made, madeOneOf, madeOne, madeTwoOf, madeTwo, keepOf, Left, leftBy, placedPlan, planned}
+use Rattle.planner.specs.Plans.{Made, madeOneOf, madeOne, madeTwoOf, madeTwo, keepOf, leftBy, placedPlan, planned}
 use Rattle.planner.specs.declared.Planned.the-variants.{Turned}
 
 -- values of accepted contents
