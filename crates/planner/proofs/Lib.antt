@@ -1,7 +1,9 @@
 -- Laws that the proofs of the planners cite.
 pub mod Sending
-pub mod AppendDelete
+pub mod LentPlace
+pub mod GivenLists
 pub mod Marks
+pub mod AppendDelete
 pub mod Places
 pub mod Looking
 pub mod Edits
@@ -10,3 +12,5 @@ pub mod StageOne
 pub mod FirstStage
 pub mod SecondStage
 pub mod PlanTwo
+pub mod Claims
+pub mod Answers
