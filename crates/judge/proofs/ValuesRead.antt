@@ -5,7 +5,7 @@ use native.Mathlib.Omega.{arith}
 use mathlib.Core.Path.{_≡_, refl, sym, _∙_, ap}
 use mathlib.Core.Bool.{Bool, true}
 use mathlib.Core.List.{List, map, List·Memᴰ, Memᴰ·of-map}
-use mathlib.Core.Option.{Option, none, some}
+use mathlib.Core.Option.{none, some}
 use lib.ListN.{length, length-map}
 use Rattle.policy.specs.Claims.{Policy}
 use Rattle.policy.specs.Rule.{Rule}
@@ -74,7 +74,7 @@ module _ (file : List ℕ) where
       go (refused other) e = ap Turned (cc)
 
   -- what is accepted for the judge has a script
-  scripted : (c : Contents) → readToJudge file ≡ accepted c → (readFile file ≡ accepted c) × ((s : Script) × (c .script ≡ some s))
+  pub scripted : (c : Contents) → readToJudge file ≡ accepted c → (readFile file ≡ accepted c) × ((s : Script) × (c .script ≡ some s))
   unfolding readToJudge needsScript
   scripted c e = go (readFile file) e
     where
