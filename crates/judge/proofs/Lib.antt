@@ -1,3 +1,6 @@
 pub mod Support
 pub mod Search
 pub mod Verdicts
+pub mod ValuesRead
+pub mod Claims
+pub mod Answers

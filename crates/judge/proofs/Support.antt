@@ -16,7 +16,7 @@ use lib.Seq.{split-at, take-length, take-nil}
 use Rattle.policy.specs.Lists.{all, mem, contains, before}
 use Rattle.policy.specs.Judge.{supportedBy, supported, full}
 use Rattle.policy.specs.Command.{within}
-use Rattle.policy.specs.Properties.{In, Distinct}
+use Rattle.policy.specs.Properties.{In}
 use Rattle.policy.proofs.Tests.{byTest, never, and-both, both-and, or-either, either-or}
 use Rattle.policy.proofs.Lists.{not-in, place-in, before-at}
 use Rattle.policy.proofs.Order.{not-earlier}

@@ -2,3 +2,4 @@
 pub mod Fronts
 pub mod SoFar
 pub mod Answers
+pub mod Claims

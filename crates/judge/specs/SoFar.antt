@@ -2,7 +2,7 @@
 use Prim.Native.Nat.{ℕ}
 use mathlib.Core.Bool.{cond}
 use mathlib.Core.List.{List}
-use mathlib.Core.Option.{Option, none, some}
+use mathlib.Core.Option.{none, some}
 use Rattle.policy.specs.Judge.{full, firstUnsupported}
 use Rattle.policy.specs.declared.Verdict.{Verdict}
 use Rattle.policy.specs.declared.Verdict.the-variants.{Broken, Elsewhere, Unordered, NotFull, Safe}
