@@ -1,0 +1,3 @@
+pub mod LastList
+pub mod Decisions
+pub mod Endings
