@@ -44,6 +44,14 @@ turned-file of-target flow file refusal e = go (readFile file) e
     go (accepted c) e = absurd (let z : _≡_ {A = ℕ} 0 1 = cc in omega arith)
     go (refused other) e = let same : refusal ≡ other = cc in rw same
 
+-- The policy that is asked for.
+module _ {of-target : Bool} {list : Span} (target initial : Span) where
+  pub asked-target : of-target ≡ true → list ≡ target → list ≡ cond of-target target initial
+  asked-target e is = rw e is
+
+  pub asked-initial : of-target ≡ false → list ≡ initial → list ≡ cond of-target target initial
+  asked-initial e is = rw e is
+
 -- A file that is accepted: its contents stand in it.
 pub record Read (file : List ℕ) (layout : Layout) : Type 0 where
   pub contents : Contents

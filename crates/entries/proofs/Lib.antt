@@ -1,3 +1,4 @@
 pub mod LastList
 pub mod Decisions
 pub mod Endings
+pub mod Replays

@@ -2,19 +2,17 @@
 
 ghost use mathlib.Core.Path.{_≡_};
 ghost use Rattle.deployment.specs.File.{readFile, readToJudge};
-ghost use Rattle.reader.specs.Answers.{shown};
 ghost use Rattle.entries.specs.Answers.{decidedReading, replayedReading, leftBy};
 use super::Decided;
 use super::Ran;
 use super::last::replay_into;
 use decision::decided;
-use deployment::Refusal;
-use deployment::Why;
 use policy::Flow;
 use reader::FileRead;
 use reader::Span;
 use reader::file::HEAD_BYTES;
 use reader::file::read;
+use reader::file::read_to_judge;
 use reader::file::value;
 use reader::values::RULE_BYTES;
 
@@ -43,25 +41,6 @@ pub fn decide(file: &[u8], of_target: bool, flow: Flow) -> Decided
     }
 }
 
-// 12: no script in the file, at the file's length; else as read.
-fn read_to_judge(file: &[u8]) -> FileRead
-    ensures { λ r. ⌜ r ≡ shown (readToJudge (now (file .entry))) ⌝ }
-{
-    let found = read(file);
-    match found {
-        FileRead::Refused(refusal) => FileRead::Refused(refusal),
-        FileRead::Accepted(layout) => {
-            if !layout.has_script {
-                return FileRead::Refused(Refusal {
-                    why: Why::NoScript,
-                    at: file.len(),
-                });
-            }
-            FileRead::Accepted(layout)
-        }
-    }
-}
-
 // Replays the script of the file from its initial policy; the last list, as a list value, fills the first bytes of `place`.
 pub fn replay(file: &[u8], place: &mut [u8]) -> Ran
     ensures { λ r. ⌜ leftBy r (now (place .exit)) ≡ replayedReading (readToJudge (now (file .entry))) (now (place .entry)) ⌝ }
@@ -72,7 +51,12 @@ pub fn replay(file: &[u8], place: &mut [u8]) -> Ran
         FileRead::Accepted(layout) => {
             let initial = layout.initial;
             let script = layout.script;
-            replay_into(layout.rules, value(file, initial), value(file, script), place)
+            replay_into(
+                layout.rules,
+                value(file, initial),
+                value(file, script),
+                place,
+            )
         }
     }
 }

@@ -42,6 +42,13 @@ fn put_list(place: &mut [u8], list: Running)
     }
 }
 
+// How many bytes a list value of this list has.
+fn bytes_needed(list: Running) -> usize
+    ensures { λ n. ⌜ n ≡ 2 * length (view list) ⌝ }
+{
+    NUMBER_BYTES * list.count()
+}
+
 // Replays a script value from a policy value, for a catalogue of `size` rules; the last list fills the first bytes of the place.
 pub fn replay_into(size: usize, initial: &[u8], script: &[u8], place: &mut [u8]) -> Ran
     ensures { λ r. ⌜
@@ -56,7 +63,7 @@ pub fn replay_into(size: usize, initial: &[u8], script: &[u8], place: &mut [u8])
         Ending::Broken(fault, step) => Ran::Broken(fault, step),
         Ending::Ended => {
             let list = r.list;
-            let needed = NUMBER_BYTES * list.count();
+            let needed = bytes_needed(list);
             if place.len() < needed {
                 return Ran::Turned(Refusal {
                     why: Why::Room,

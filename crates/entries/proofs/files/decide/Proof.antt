@@ -9,7 +9,7 @@ use mathlib.Core.List.{List}
 use Rattle.deployment.specs.Properties.{AreBytes}
 use Rattle.deployment.proofs.Bytes.{elements-are-bytes}
 use Rattle.reader.specs.declared.Layout.{Layout}
-use Rattle.entries.proofs.Decisions.{Read, read-contents, turned-file, few-rules, decided-file}
+use Rattle.entries.proofs.Decisions.{Read, read-contents, turned-file, asked-target, asked-initial, few-rules, decided-file}
 use borrow.Author.Needs.{needs}
 use Rattle.entries.proofs.files.decide.Statement.{statement}
 use Rattle.entries.proofs.files.decide.Tie as tie
@@ -31,7 +31,12 @@ stands c =
 asked : (c : tie.Joined1) →
     let a = c .before .before .before .before .before .before .args in
     c .if1 .list ≡ cond (a .of-target) (layout (c .before) .target) (layout (c .before) .initial)
-asked c = ⊎-elim (λ w. rw (w .0 .taken) (w .2)) (λ w. rw (w .0 .left) (w .2)) (c .if1 .came)
+asked c =
+    let at = layout (c .before) in
+    ⊎-elim
+    (λ w. asked-target (at .target) (at .initial) (w .0 .taken) (w .2))
+    (λ w. asked-initial (at .target) (at .initial) (w .0 .left) (w .2))
+    (c .if1 .came)
 
 read-requires : tie.Need-read-requires
 read-requires c κs = search needs

@@ -1,47 +1,61 @@
+-- `files::replay` meets its contract: turned away as the file is, or as the replay of the values at the places of the file. Assumes nothing.
+use Prim.Native.Nat.{ℕ, min}
+use native.Mathlib.Omega.{arith}
+use mathlib.Core.Path.{_≡_, sym, _∙_, ap₂}
+use mathlib.Core.List.{List}
+use Rattle.deployment.proofs.Bytes.{elements-are-bytes}
+use Rattle.reader.specs.declared.Layout.{Layout}
+use Rattle.entries.specs.Answers.{Left, replayedOver, replayedAtZero}
+use Rattle.entries.proofs.Replays.{turned-file, replayed-file}
 use borrow.Author.Needs.{needs}
 use Rattle.entries.proofs.files.replay.Statement.{statement}
 use Rattle.entries.proofs.files.replay.Tie as tie
-use Rattle.entries.proofs.files.replay.Reads as reads
-use Rattle.entries.proofs.files.replay.Lts as lts
-use Rattle.entries.proofs.files.read_to_judge.Reads as read-to-judge-reads
-use Rattle.entries.proofs.last.replay_into.Reads as replay-into-reads
-use Rattle.reader.proofs.file.value.Reads as value-reads
 
--- src/files.rt:69:9
+abbrev start : tie.After-read-to-judge → tie.Start
+start c = c .before .before .before
+
 read-to-judge-requires : tie.Need-read-to-judge-requires
 read-to-judge-requires c κs = search needs
 
--- src/files.rt:71:27
 enum-known-found : tie.Need-enum-known-found
 enum-known-found c = search needs
 
--- src/files.rt:72:28
 enum-known-found-2 : tie.Need-enum-known-found-2
 enum-known-found-2 c = search needs
 
--- src/files.rt:75:39
 value-requires : tie.Need-value-requires
 value-requires c κs = search needs
 
--- src/files.rt:75:61
 value-requires-2 : tie.Need-value-requires-2
 value-requires-2 c κs = search needs
 
--- src/files.rt:75:13
 replay-into-requires : tie.Need-replay-into-requires
 replay-into-requires c κs = search needs
 
--- src/files.rt:66:1
 returns : tie.Need-returns
-returns c = ?
+returns c =
+    let read = c .before .before .before in
+    let a = start read .args in
+    turned-file (a .file .now) (a .place .now) _ (sym (c .before .found .given .1) ∙ read .read-to-judge .ensures)
 
--- src/files.rt:66:1
 same-length : tie.Need-same-length
 same-length c = search needs
 
--- src/files.rt:66:1
 returns-2 : tie.Need-returns-2
-returns-2 c = ?
+returns-2 c =
+    let ran = c .before .before in
+    let second = ran .before .before in
+    let first = second .before in
+    let found = first .before .before .before .before in
+    let read = found .before .before in
+    let a = start read .args in
+    let layout : Layout = found .found2 .given .0 .0 in
+    let file = a .file .now in
+    ran .replay-into .ensures
+    ∙ ap₂ (λ (initial script : List ℕ). replayedAtZero (replayedOver (min (layout .rules) 1024) initial script) (a .place .now))
+    (first .value .ensures) (second .value2 .ensures)
+    ∙ replayed-file file layout (sym (found .found2 .given .1) ∙ read .read-to-judge .ensures)
+    (elements-are-bytes file (λ i. omega (arith, read .before .before .shared-slice-known .given i))) (a .place .now)
 
 pub replay-spec : {M : Type 1} → statement M
 replay-spec =

@@ -1,37 +1,47 @@
+-- `lists::replay` meets its contract: turned away at the rules, or as the replay over as many rules as their bytes hold. Assumes nothing.
+use mathlib.Core.Path.{sym, _∙_}
+use Rattle.reader.proofs.Given.{Rules, rules-passed}
+use Rattle.entries.proofs.Replays.{turned-at-rules, replayed-values}
 use borrow.Author.Needs.{needs}
 use Rattle.entries.proofs.lists.replay.Statement.{statement}
 use Rattle.entries.proofs.lists.replay.Tie as tie
-use Rattle.entries.proofs.lists.replay.Reads as reads
-use Rattle.entries.proofs.lists.replay.Lts as lts
-use Rattle.entries.proofs.last.replay_into.Reads as replay-into-reads
-use Rattle.reader.proofs.values.catalogue_checked.Reads as catalogue-checked-reads
 
--- src/lists.rt:42:9
+abbrev start : tie.After-catalogue-checked → tie.Start
+start c = c .before .before .before .before .before
+
+-- the rules passed
+rules : (c : tie.After-enum-told) → Rules (start (c .before .before) .args .rules .now)
+rules c = rules-passed _ (sym (c .enum-told .given .1) ∙ c .before .before .catalogue-checked .ensures)
+
 catalogue-checked-requires : tie.Need-catalogue-checked-requires
 catalogue-checked-requires c κs = search needs
 
--- src/lists.rt:43:26
 enum-known-first : tie.Need-enum-known-first
 enum-known-first c = search needs
 
--- src/lists.rt:44:9
 returns : tie.Need-returns
-returns c = ?
+returns c =
+    let checked = c .before .before .before in
+    let a = start checked .args in
+    turned-at-rules (a .rules .now) (a .initial .now) (a .script .now) (a .place .now) _
+    (sym (c .before .first .given .1) ∙ checked .catalogue-checked .ensures)
 
 enum-told : tie.Need-enum-told
 enum-told c = search needs
 
--- src/lists.rt:46:5
 replay-into-requires : tie.Need-replay-into-requires
 replay-into-requires c κs = search needs
 
--- src/lists.rt:36:1
 same-length : tie.Need-same-length
 same-length c = search needs
 
--- src/lists.rt:36:1
 returns-2 : tie.Need-returns-2
-returns-2 c = ?
+returns-2 c =
+    let ran = c .before .before in
+    let passed = ran .before .before in
+    let a = start (passed .before .before) .args in
+    ran .replay-into .ensures
+    ∙ replayed-values (a .rules .now) (a .initial .now) (a .script .now) (a .place .now) (rules passed)
 
 pub replay-spec : {M : Type 1} → statement M
 replay-spec =
