@@ -5,7 +5,7 @@ use native.Mathlib.Omega.{arith}
 use mathlib.Core.Path.{_≡_, refl, sym, _∙_, ap, ap₂}
 use mathlib.Core.Bool.{Bool, true, false, cond}
 use mathlib.Core.List.{List, [], _∷_, _++_, map, append-assoc, append-nil}
-use lib.ListN.{length, take, drop}
+use lib.ListN.{length, drop}
 use lib.Dec.{eqb, leb}
 use Rattle.policy.specs.Policy.{most-rules, decide, matching}
 use Rattle.policy.specs.Rule.{Rule}
@@ -15,7 +15,7 @@ use Rattle.deployment.specs.Checked.{Checked, good, bad, _>>=_}
 use Rattle.deployment.specs.Bytes.{part, chunks}
 use Rattle.deployment.specs.Values.{rule-bytes, ruleOf, numbersOf}
 use Rattle.deployment.specs.Catalogue.{recordCount, recordsOf, catalogueOf}
-use Rattle.deployment.specs.Contents.{Contents, ruleRead}
+use Rattle.deployment.specs.Contents.{Contents}
 use Rattle.deployment.specs.File.{Reading, accepted, refused, readFile}
 use Rattle.deployment.specs.FieldValues.{rulesRead, catalogueValue, policyValue}
 use Rattle.deployment.specs.Properties.{AreBytes}
@@ -24,7 +24,7 @@ use Rattle.deployment.specs.declared.Refusal.{Refusal}
 use Rattle.deployment.proofs.Tests.{tested, rule-tested}
 use Rattle.deployment.proofs.ReadBack.{read-back}
 use Rattle.reader.specs.Answers.{checking, valueAt, shown, fileRead}
-use Rattle.reader.specs.Claims.{ListStands, Stands}
+use Rattle.reader.specs.Claims.{Stands}
 use Rattle.reader.specs.declared.Checking.the-variants.{Good, Bad}
 use Rattle.reader.specs.declared.Span.{Span}
 use Rattle.reader.specs.declared.Layout.{Layout}

@@ -7,16 +7,16 @@ use mathlib.Core.List.{List}
 use mathlib.Core.Option.{Option, some}
 use borrow.Author.Tests.{le-leb, lt-leb}
 use lib.ListN.{length}
-use Rattle.policy.specs.Replay.{Replayed, ended, broken, replay}
+use Rattle.policy.specs.Replay.{Replayed, ended, broken}
 use Rattle.policy.specs.declared.Fault.{Fault}
-use Rattle.deployment.specs.Checked.{Checked, good, bad, _>>=_}
+use Rattle.deployment.specs.Checked.{Checked, good, bad}
 use Rattle.deployment.specs.Values.{Script, numbersBytes}
 use Rattle.deployment.specs.FieldValues.{policyValue, scriptValue, filled, unwritten, writing}
 use Rattle.deployment.specs.declared.Why.{Why}
 use Rattle.deployment.specs.declared.Why.the-variants.{Room}
 use Rattle.deployment.proofs.Values.{length-numbers}
 use Rattle.running.specs.Running.{view}
-use Rattle.replay.specs.Answers.{Outcome, shownBy, stopped, outcomeOf, commandsOf, replayed}
+use Rattle.replay.specs.Answers.{Outcome, shownBy, stopped, outcomeOf, replayed}
 use Rattle.replay.specs.declared.Replayed as code
 use Rattle.replay.specs.declared.Ending.the-variants.{Ended, Broken, Turned}
 use Rattle.entries.specs.Answers.{leftBy, ranTo, listLeft, replayLeft, replayedOver, replayedAtZero}

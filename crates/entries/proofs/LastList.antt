@@ -1,12 +1,12 @@
 -- A list written number by number: two bytes a number, one behind the other, are its list value, and fill the first bytes of the place.
 -- Assumes nothing.
-use Prim.Native.Nat.{ℕ, suc, _+_, _*_, _≤_, _<_}
+use Prim.Native.Nat.{ℕ, _+_, _*_, _≤_, _<_}
 use native.Mathlib.Numerals.{add-one}
 use native.Mathlib.Omega.{arith}
-use mathlib.Core.Path.{_≡_, refl, sym, _∙_, ap}
+use mathlib.Core.Path.{_≡_, refl, _∙_, ap}
 use mathlib.Core.List.{List, [], _∷_, _++_, map}
 use lib.ListN.{length, take, getD, set}
-use lib.Seq.{sets, take-suc}
+use lib.Seq.{take-suc}
 use Rattle.deployment.specs.Bytes.{bytesOf, joined}
 use Rattle.deployment.specs.Values.{numbersBytes}
 use Rattle.deployment.specs.FieldValues.{filled}

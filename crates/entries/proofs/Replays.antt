@@ -3,7 +3,7 @@
 use Prim.Native.Nat.{ℕ, _/_, _≤_, min}
 use native.Mathlib.Nat.{min-eq-left}
 use native.Mathlib.Omega.{arith}
-use mathlib.Core.Path.{_≡_, refl, sym, _∙_, ap}
+use mathlib.Core.Path.{_≡_, refl, _∙_, ap}
 use mathlib.Core.List.{List}
 use mathlib.Core.Option.{Option, none, some}
 use lib.ListN.{length}
@@ -28,7 +28,7 @@ use Rattle.reader.specs.declared.Layout.{Layout}
 use Rattle.reader.specs.declared.FileRead.the-variants.{Accepted, Refused}
 use Rattle.reader.proofs.Given.{Rules, failed}
 use Rattle.replay.specs.Answers.{commandsOf}
-use Rattle.entries.specs.Answers.{leftBy, replayedContents, replayedReading, replayedOver, replayedValues, replayedAtZero}
+use Rattle.entries.specs.Answers.{Left, leftBy, replayedContents, replayedReading, replayedOver, replayedValues, replayedAtZero}
 use Rattle.entries.specs.declared.Ran.the-variants as ran
 use Rattle.entries.proofs.Decisions.{Read, read-contents}
 
@@ -87,24 +87,28 @@ module _ (file : List ℕ) (layout : Layout) (e : Accepted layout ≡ shown (rea
       rw (counted, stands .initial .bytes, there .bytes, has)
       (values-pass (length (c .catalogue)) (c .initial) s few (stands .valid .initial) scripted)
 
-  pub replayed-file : AreBytes file → (place : List ℕ)
-      → replayedAtZero (replayedOver (min (layout .rules) 1024) (valueAt (layout .initial) file) (valueAt (layout .script) file)) place
-      ≡ replayedReading (readToJudge file) place
+  pub replayed-file : AreBytes file → (place : List ℕ) {initial script : List ℕ} (left : Left)
+      → initial ≡ valueAt (layout .initial) file → script ≡ valueAt (layout .script) file
+      → left ≡ replayedAtZero (replayedOver (min (layout .rules) 1024) initial script) place → left ≡ replayedReading (readToJudge file) place
   unfolding shown needing replayedAtZero replayedReading
-  replayed-file bytes place = go (read .contents .script) refl
+  replayed-file bytes place {initial} {script} left initial-is script-is is = is ∙ go (read .contents .script) refl
     where
       read : Read file layout
       read = read-contents file layout bytes read-first
 
-      go : (script : Option Script) → read .contents .script ≡ script
-          → replayedAtZero (replayedOver (min (layout .rules) 1024) (valueAt (layout .initial) file) (valueAt (layout .script) file)) place
-          ≡ replayedReading (readToJudge file) place
+      go : (there : Option Script) → read .contents .script ≡ there
+          → replayedAtZero (replayedOver (min (layout .rules) 1024) initial script) place ≡ replayedReading (readToJudge file) place
       go none has =
           let without : Accepted layout ≡ Refused (record { why = NoScript; at = length file }) =
           e ∙ ap shown (judged (read .contents) none (read .is) has) in
           absurd (let z : _≡_ {A = ℕ} 0 1 = cc in omega arith)
       go (some s) has =
-          rw (contents-replayed (read .contents) s (read .stands) has, judged (read .contents) (some s) (read .is) has)
+          rw (
+            initial-is,
+            script-is,
+            contents-replayed (read .contents) s (read .stands) has,
+            judged (read .contents) (some s) (read .is) has,
+          )
 
 -- Field values, after their rules.
 module _ (rules initial script place : List ℕ) where

@@ -16,10 +16,7 @@ use reader::file::read_to_judge;
 use reader::file::value;
 use reader::values::RULE_BYTES;
 
-// The bytes before each rule: its field's head.
-const SKIP: u8 = 3;
-
-// Decides a flow by the target policy of the file, if asked for, or else by its initial one.
+// Decides a flow by the target policy of the file, if asked for, or else by its initial one. The rules stand first, each behind its field's head.
 pub fn decide(file: &[u8], of_target: bool, flow: Flow) -> Decided
     ensures { λ r. ⌜ r ≡ decidedReading «of_target» flow (readFile (now (file .entry))) ⌝ }
 {
@@ -36,7 +33,12 @@ pub fn decide(file: &[u8], of_target: bool, flow: Flow) -> Decided
                 start: 0,
                 size: (HEAD_BYTES + RULE_BYTES) * layout.rules,
             };
-            Decided::Is(decided(value(file, rules), SKIP, value(file, list), flow))
+            Decided::Is(decided(
+                value(file, rules),
+                HEAD_BYTES as u8,
+                value(file, list),
+                flow,
+            ))
         }
     }
 }

@@ -13,8 +13,8 @@ use reader::values::RULE_BYTES;
 use reader::values::catalogue_checked;
 use reader::values::policy_checked;
 
-// No bytes stand before a rule of a field value.
-const SKIP: u8 = 0;
+// No field's head stands before a rule of a field value.
+const NO_HEAD: u8 = 0;
 
 // Decides a flow by a policy: 4, 7, 5, 6 for the rules, then 4, 8, 9 for the policy.
 pub fn decide(rules: &[u8], policy: &[u8], flow: Flow) -> Decided
@@ -28,7 +28,7 @@ pub fn decide(rules: &[u8], policy: &[u8], flow: Flow) -> Decided
     if let Checking::Bad(why) = second {
         return Decided::Turned(Refusal { why, at: 0 });
     }
-    Decided::Is(decided(rules, SKIP, policy, flow))
+    Decided::Is(decided(rules, NO_HEAD, policy, flow))
 }
 
 // Replays a script from a policy: 4, 7, 5, 6 for the rules, 4, 8, 9 for the policy, 4, 11 for the script, 20 to 23, and last 13; the last

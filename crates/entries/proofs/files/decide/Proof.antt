@@ -6,7 +6,6 @@ use mathlib.Core.Path.{_≡_, refl, sym, _∙_}
 use mathlib.Core.Bool.{cond}
 use mathlib.Core.Logic.{⊎-elim}
 use mathlib.Core.List.{List}
-use Rattle.deployment.specs.Properties.{AreBytes}
 use Rattle.deployment.proofs.Bytes.{elements-are-bytes}
 use Rattle.reader.specs.declared.Layout.{Layout}
 use Rattle.entries.proofs.Decisions.{Read, read-contents, turned-file, asked-target, asked-initial, few-rules, decided-file}
@@ -56,6 +55,9 @@ mul-t13 c = omega (arith, few-rules (stands (c .before .before)))
 value-requires : tie.Need-value-requires
 value-requires c κs = search needs
 
+cast-decided : tie.Need-cast-decided
+cast-decided c = search needs
+
 value-requires-2 : tie.Need-value-requires-2
 value-requires-2 c κs = search needs
 
@@ -85,6 +87,7 @@ decide-spec =
     add-t12
     mul-t13
     value-requires
+    cast-decided
     value-requires-2
     decided-requires
     returns

@@ -1,11 +1,7 @@
 -- `files::replay` meets its contract: turned away as the file is, or as the replay of the values at the places of the file. Assumes nothing.
-use Prim.Native.Nat.{ℕ, min}
 use native.Mathlib.Omega.{arith}
-use mathlib.Core.Path.{_≡_, sym, _∙_, ap₂}
-use mathlib.Core.List.{List}
+use mathlib.Core.Path.{sym, _∙_}
 use Rattle.deployment.proofs.Bytes.{elements-are-bytes}
-use Rattle.reader.specs.declared.Layout.{Layout}
-use Rattle.entries.specs.Answers.{Left, replayedOver, replayedAtZero}
 use Rattle.entries.proofs.Replays.{turned-file, replayed-file}
 use borrow.Author.Needs.{needs}
 use Rattle.entries.proofs.files.replay.Statement.{statement}
@@ -49,13 +45,10 @@ returns-2 c =
     let found = first .before .before .before .before in
     let read = found .before .before in
     let a = start read .args in
-    let layout : Layout = found .found2 .given .0 .0 in
     let file = a .file .now in
-    ran .replay-into .ensures
-    ∙ ap₂ (λ (initial script : List ℕ). replayedAtZero (replayedOver (min (layout .rules) 1024) initial script) (a .place .now))
-    (first .value .ensures) (second .value2 .ensures)
-    ∙ replayed-file file layout (sym (found .found2 .given .1) ∙ read .read-to-judge .ensures)
-    (elements-are-bytes file (λ i. omega (arith, read .before .before .shared-slice-known .given i))) (a .place .now)
+    replayed-file file (found .found2 .given .0 .0) (sym (found .found2 .given .1) ∙ read .read-to-judge .ensures)
+    (elements-are-bytes file (λ i. omega (arith, read .before .before .shared-slice-known .given i))) (a .place .now) _
+    (first .value .ensures) (second .value2 .ensures) (ran .replay-into .ensures)
 
 pub replay-spec : {M : Type 1} → statement M
 replay-spec =

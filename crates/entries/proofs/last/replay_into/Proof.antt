@@ -1,7 +1,6 @@
 -- `replay_into` meets its contract, by how the replay ends: turned away, broken off, or at a last list, which is written where there is
 -- room. Assumes nothing.
-use native.Mathlib.Omega.{arith}
-use mathlib.Core.Path.{_≡_, sym, _∙_}
+use mathlib.Core.Path.{_≡_}
 use Rattle.replay.specs.declared.Ending.the-variants.{Ended}
 use Rattle.entries.proofs.Endings.{turned-away, broken-off, no-room, written}
 use borrow.Author.Needs.{needs}
