@@ -1,0 +1,94 @@
+-- `files::decide` meets its contract: the parts at the places of an accepted file are read as its catalogue and its policy, and the decision
+-- over them is that of the contents. Assumes nothing.
+use Prim.Native.Nat.{ℕ}
+use native.Mathlib.Omega.{arith}
+use mathlib.Core.Path.{_≡_, refl, sym, _∙_}
+use mathlib.Core.Bool.{cond}
+use mathlib.Core.Logic.{⊎-elim}
+use mathlib.Core.List.{List}
+use Rattle.deployment.proofs.Bytes.{elements-are-bytes}
+use Rattle.reader.specs.declared.Layout.{Layout}
+use Rattle.entries.proofs.Decisions.{Read, read-contents, turned-file, asked-target, asked-initial, few-rules, decided-file}
+use borrow.Author.Needs.{needs}
+use Rattle.entries.proofs.files.decide.Statement.{statement}
+use Rattle.entries.proofs.files.decide.Tie as tie
+
+-- the layout that was read, and what stands there
+abbrev layout : tie.After-known-told2 → Layout
+layout c = c .before .found2 .given .0 .0
+
+abbrev file : tie.After-known-told2 → List ℕ
+file c = c .before .before .before .before .before .args .file .now
+
+stands : (c : tie.After-known-told2) → Read (file c) (layout c)
+stands c =
+    let read = c .before .before .before in
+    read-contents (file c) (layout c) (elements-are-bytes (file c) (λ i. omega (arith, read .before .shared-slice-known .given i)))
+    (sym (c .before .found2 .given .1) ∙ read .read .ensures)
+
+-- the policy that is asked for
+asked : (c : tie.Joined1) →
+    let a = c .before .before .before .before .before .before .args in
+    c .if1 .list ≡ cond (a .of-target) (layout (c .before) .target) (layout (c .before) .initial)
+asked c =
+    let at = layout (c .before) in
+    ⊎-elim
+    (λ w. asked-target (at .target) (at .initial) (w .0 .taken) (w .2))
+    (λ w. asked-initial (at .target) (at .initial) (w .0 .left) (w .2))
+    (c .if1 .came)
+
+read-requires : tie.Need-read-requires
+read-requires c κs = search needs
+
+enum-known-found : tie.Need-enum-known-found
+enum-known-found c = search needs
+
+enum-known-found-2 : tie.Need-enum-known-found-2
+enum-known-found-2 c = search needs
+
+add-t12 : tie.Need-add-t12
+add-t12 c = search needs
+
+mul-t13 : tie.Need-mul-t13
+mul-t13 c = omega (arith, few-rules (stands (c .before .before)))
+
+value-requires : tie.Need-value-requires
+value-requires c κs = search needs
+
+cast-decided : tie.Need-cast-decided
+cast-decided c = search needs
+
+value-requires-2 : tie.Need-value-requires-2
+value-requires-2 c κs = search needs
+
+decided-requires : tie.Need-decided-requires
+decided-requires c κs = search needs
+
+returns : tie.Need-returns
+returns c =
+    let read = c .before .before .before in
+    let a = read .before .before .args in
+    turned-file (a .of-target) (a .flow) (a .file .now) _ (sym (c .before .found .given .1) ∙ read .read .ensures)
+
+returns-2 : tie.Need-returns-2
+returns-2 c =
+    let joined = c .before .before .before .before in
+    let a = joined .before .before .before .before .before .before .args in
+    decided-file (stands (joined .before)) (a .of-target) (a .flow) (joined .if1 .list) _ _ _ (c .decided .result)
+    (asked joined) refl (c .before .before .value .ensures) (c .before .value2 .ensures) (c .decided .ensures)
+
+pub decide-spec : {M : Type 1} → statement M
+decide-spec =
+    tie.close
+    (tie.spec
+    read-requires
+    enum-known-found
+    enum-known-found-2
+    add-t12
+    mul-t13
+    value-requires
+    cast-decided
+    value-requires-2
+    decided-requires
+    returns
+    returns-2)

@@ -1,0 +1,23 @@
+// What callers who have only bytes can ask: the decision of a flow, and the replay of a script, over a file (files.rt) and over field values
+// (lists.rt). Each entry answers in full, and none has a `requires`.
+
+use deployment::Refusal;
+use policy::Decision;
+use policy::Fault;
+
+pub mod files;
+mod last;
+pub mod lists;
+
+// A flow's decision, or why the bytes are turned away.
+pub enum Decided {
+    Is(Decision),
+    Turned(Refusal),
+}
+
+// How a replay ends: the bytes of the last list that were written; the fault of a command that fails and its step; or why it is turned away.
+pub enum Ran {
+    Ended(usize),
+    Broken(Fault, usize),
+    Turned(Refusal),
+}
