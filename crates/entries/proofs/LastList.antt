@@ -12,8 +12,8 @@ use Rattle.deployment.specs.Values.{numbersBytes}
 use Rattle.deployment.specs.FieldValues.{filled}
 use Rattle.deployment.proofs.Values.{length-numbers}
 use Rattle.deployment.proofs.Fields.{joined-snoc, map-snoc}
-use Rattle.writer.specs.Answers.{Stored}
-use Rattle.writer.proofs.Pieces.{stored-more, stored-fills}
+use Rattle.deployment.specs.FieldValues.{Stored}
+use Rattle.deployment.proofs.Storing.{stored-more, stored-fills}
 
 numbers-snoc : (l : List ℕ) (n : ℕ) → numbersBytes (l ++ (n ∷ [])) ≡ numbersBytes l ++ bytesOf 2 n
 unfolding numbersBytes

@@ -13,7 +13,9 @@ use Rattle.deployment.specs.Checked.{Checked, good, bad, _>>=_}
 use Rattle.deployment.specs.Values.{numbersBytes}
 use Rattle.deployment.specs.Contents.{Contents}
 use Rattle.deployment.specs.File.{Reading, accepted, refused}
-use Rattle.deployment.specs.FieldValues.{catalogueValue, policyValue, scriptValue, Wrote, wrote, turned, writing}
+use Rattle.deployment.specs.FieldValues.{catalogueValue, policyValue, scriptValue, writing}
+use Rattle.deployment.specs.declared.Written.{Written}
+use Rattle.deployment.specs.declared.Written.the-variants.{Bytes, Turned}
 use Rattle.replay.specs.Answers.{commandsOf}
 use Rattle.entries.specs.declared.Decided.{Decided}
 use Rattle.entries.specs.declared.Decided.the-variants as decided
@@ -49,9 +51,9 @@ pub record Left : Type 0 where
 unfoldable pub leftBy : Ran → List ℕ → Left
 leftBy answer place = record { answer = answer; place = place }
 
-unfoldable pub ranTo : Wrote → Ran
-ranTo (wrote n) = ran.Ended n
-ranTo (turned refusal) = ran.Turned refusal
+unfoldable pub ranTo : Written → Ran
+ranTo (Bytes n) = ran.Ended n
+ranTo (Turned refusal) = ran.Turned refusal
 
 -- "on success the output fills the first bytes and the rest keep theirs", "and last 13": the last list, as a list value
 unfoldable pub listLeft : List ℕ → List ℕ → Left

@@ -7,7 +7,7 @@ use lib.ListN.{length, length-set}
 use Rattle.running.specs.Running.{view}
 use Rattle.running.proofs.Slots.{field-length}
 use Rattle.running.proofs.Edits.{view-count, view-fits}
-use Rattle.writer.proofs.Pieces.{stored-long}
+use Rattle.deployment.proofs.Storing.{stored-long}
 use Rattle.entries.proofs.LastList.{Put, none-put, one-more-put, all-put}
 use borrow.Author.Needs.{needs}
 use Rattle.entries.proofs.last.put_list.Statement.{statement}
