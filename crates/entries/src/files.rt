@@ -1,4 +1,4 @@
-// Decision and replay over a deployment file.
+// The entries over a deployment file.
 
 ghost use mathlib.Core.Path.{_≡_};
 ghost use Rattle.deployment.specs.File.{readFile, readToJudge};
@@ -7,13 +7,16 @@ use super::Decided;
 use super::Ran;
 use super::last::replay_into;
 use decision::decided;
+pub use judge::judge_file as judge;
+pub use planner::plan_one_file as plan_one;
+pub use planner::plan_two_file as plan_two;
 use policy::Flow;
 use reader::FileRead;
 use reader::Span;
 use reader::file::HEAD_BYTES;
-use reader::file::read;
-use reader::file::read_to_judge;
-use reader::file::value;
+pub use reader::file::read;
+pub use reader::file::read_to_judge;
+pub use reader::file::value;
 use reader::values::RULE_BYTES;
 
 // Decides a flow by the target policy of the file, if asked for, or else by its initial one. The rules stand first, each behind its field's head.

@@ -1,5 +1,5 @@
-// What callers who have only bytes can ask: the decision of a flow, and the replay of a script, over a file (files.rt) and over field values
-// (lists.rt). Each entry answers in full, and none has a `requires`.
+// What callers who have only bytes can ask, over a file (files.rt) and over field values (lists.rt): read, write, decide, replay, plan, judge.
+// Each entry answers in full, and none has a `requires`. Decision and replay are written here; the others stand in crates of their own.
 
 use deployment::Refusal;
 use policy::Decision;

@@ -1,4 +1,4 @@
-// Decision and replay over field values. All refusals of values stand at position 0.
+// The entries over field values. All refusals of values stand at position 0.
 
 ghost use mathlib.Core.Path.{_≡_};
 ghost use Rattle.entries.specs.Answers.{decidedValues, decidedAtZero, replayedValues, replayedAtZero, leftBy};
@@ -7,11 +7,16 @@ use super::Ran;
 use super::last::replay_into;
 use decision::decided;
 use deployment::Refusal;
+pub use judge::judge_values as judge;
+pub use planner::plan_one_values as plan_one;
+pub use planner::plan_two_values as plan_two;
 use policy::Flow;
 use reader::Checking;
+pub use reader::lists::values_checked as check;
 use reader::values::RULE_BYTES;
 use reader::values::catalogue_checked;
 use reader::values::policy_checked;
+pub use writer::write;
 
 // No field's head stands before a rule of a field value.
 const NO_HEAD: u8 = 0;

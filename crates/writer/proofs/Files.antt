@@ -24,13 +24,8 @@ use Rattle.deployment.specs.File.{
   ifThere,
   fileOf,
 }
-<<<<<<< HEAD
 use Rattle.deployment.specs.FieldValues.{FieldValues, leftBy, Stored, unwritten, writing, valuesRead, atZero, readValues}
-use Rattle.deployment.specs.Properties.{AreBytes, IfThere}
-=======
-use Rattle.deployment.specs.FieldValues.{FieldValues, unwritten, writing, valuesRead, atZero, readValues}
 use Rattle.deployment.specs.Properties.{AreBytes}
->>>>>>> h-judge
 use Rattle.deployment.specs.Claims.{valuesOf, AreValues}
 use Rattle.deployment.specs.declared.Why.{Why}
 use Rattle.deployment.specs.declared.Why.the-variants.{Room}
@@ -42,16 +37,9 @@ use Rattle.deployment.proofs.Storing.{stored-fills}
 use Rattle.deployment.proofs.ReadBack.{length-field, valid-fits}
 use Rattle.reader.specs.Answers.{checking, given, valuesGiven}
 use Rattle.reader.specs.declared.Checking.the-variants.{Good, Bad}
-<<<<<<< HEAD
-use Rattle.reader.proofs.Given.{passed, failed}
+use Rattle.reader.proofs.Given.{given-bytes, passed, failed}
 use Rattle.writer.specs.Answers.{writtenValues, rulesBytes, fieldIf, needed}
 use Rattle.writer.proofs.Pieces.{length-if, length-all-rules}
-=======
-use Rattle.reader.proofs.Given.{given-bytes, passed, failed}
-use Rattle.writer.specs.Answers.{writtenValues, answerOf, leftBy, Stored, rulesBytes, fieldIf, needed}
-use Rattle.writer.specs.declared.Written.the-variants.{Bytes, Turned}
-use Rattle.writer.proofs.Pieces.{stored-fills, length-if, length-all-rules}
->>>>>>> h-judge
 
 -- The fields of contents, from their field values.
 rules-file : (catalogue : List Rule) (rules : List ℕ) → joined (map ruleBytes catalogue) ≡ rules
