@@ -1,7 +1,7 @@
 //! The judge: replays a script and tests every list for order and fullness.
 
 use crate::commands::{commands_of, Command};
-use crate::file::{check, numbers, Refusal, Values, MOST_RULES};
+use crate::file::{check, numbers, Refusal, Values};
 use crate::replay::{replay, Broken, RunningList};
 
 #[derive(Clone, Copy, Debug, PartialEq, Eq)]
@@ -37,8 +37,8 @@ struct Support<'a> {
 }
 
 impl<'a> Support<'a> {
-    fn new(policy: &'a [u16]) -> Support<'a> {
-        let mut index = vec![usize::MAX; MOST_RULES];
+    fn new(policy: &'a [u16], catalogue: usize) -> Support<'a> {
+        let mut index = vec![usize::MAX; catalogue];
         for (at, &rule) in policy.iter().enumerate() {
             index[usize::from(rule)] = at;
         }
@@ -82,11 +82,11 @@ struct Judge<'a> {
 }
 
 impl<'a> Judge<'a> {
-    fn new(initial: &'a [u16], target: &'a [u16]) -> Judge<'a> {
+    fn new(catalogue: usize, initial: &'a [u16], target: &'a [u16]) -> Judge<'a> {
         Judge {
-            initial: Support::new(initial),
-            target: Support::new(target),
-            seen: Seen { look: 0, marks: vec![0; MOST_RULES] },
+            initial: Support::new(initial, catalogue),
+            target: Support::new(target, catalogue),
+            seen: Seen { look: 0, marks: vec![0; catalogue] },
             not_ordered: None,
             all_full: true,
         }
@@ -127,7 +127,7 @@ impl<'a> Judge<'a> {
 
 /// Judges a script over a catalogue of so many rules.
 pub fn judge(catalogue: usize, initial: &[u16], target: &[u16], commands: &[Command]) -> Verdict {
-    let mut judge = Judge::new(initial, target);
+    let mut judge = Judge::new(catalogue, initial, target);
     let mut list = RunningList::new(initial, catalogue);
     judge.look_at(0, initial);
     let replayed = replay(&mut list, commands, |step, rules| judge.look_at(step, rules));

@@ -1,24 +1,23 @@
 //! Replay: a running list edited by commands.
 
 use crate::commands::Command;
-use crate::file::MOST_RULES;
 
 /// A list of distinct rules, with a note of which rules are there.
 #[derive(Clone, Debug)]
 pub struct RunningList {
     rules: Vec<u16>,
+    /// For each rule of the catalogue.
     there: Vec<bool>,
-    catalogue: usize,
 }
 
 impl RunningList {
     /// Starts with a policy over a catalogue of so many rules.
     pub fn new(policy: &[u16], catalogue: usize) -> RunningList {
-        let mut there = vec![false; MOST_RULES];
+        let mut there = vec![false; catalogue];
         for &rule in policy {
             there[usize::from(rule)] = true;
         }
-        RunningList { rules: policy.to_vec(), there, catalogue }
+        RunningList { rules: policy.to_vec(), there }
     }
 
     pub fn rules(&self) -> &[u16] {
@@ -37,7 +36,7 @@ impl RunningList {
     }
 
     fn test_rule(&self, rule: u16) -> Result<(), u8> {
-        if usize::from(rule) < self.catalogue { Ok(()) } else { Err(23) }
+        if usize::from(rule) < self.there.len() { Ok(()) } else { Err(23) }
     }
 
     fn test_place(place: usize, most: usize) -> Result<(), u8> {
