@@ -13,7 +13,11 @@ const SCRIPT_COMMANDS: usize = 3;
 type Held = Result<(), String>;
 
 fn must(holds: bool, say: impl FnOnce() -> String) -> Held {
-    if holds { Ok(()) } else { Err(say()) }
+    if holds {
+        Ok(())
+    } else {
+        Err(say())
+    }
 }
 
 fn report(name: &str, outcome: Result<String, String>) -> bool {

@@ -1,64 +1,14 @@
 //! Compares our answers with another implementation's on made inputs, and
 //! counts the outcomes by kind.
 
-use crate::file::read;
-use crate::inputs;
-use crate::policy::{decide, Decision, Flow};
-use crate::text::{judge_text, plan_text};
+use crate::answers::{ours, Answers, Entries, Input};
+use crate::file::Refusal;
+use crate::policy::Decision;
 use std::collections::BTreeMap;
 use std::io::{self, Write};
 use std::process::{Command, Stdio};
 
-const FLOWS_PER_INPUT: u64 = 4;
-
-/// The answers of one implementation to one input. A part that an
-/// implementation doesn't offer is `None` and isn't compared.
-#[derive(Clone, Debug, Default, PartialEq, Eq)]
-pub struct Answers {
-    pub plan_text: String,
-    pub judge_text: String,
-    /// By the initial policy and by the target, for each flow.
-    pub decisions: Option<Vec<[Decision; 2]>>,
-}
-
-fn same<T: PartialEq>(one: &Option<T>, other: &Option<T>) -> bool {
-    one.is_none() || other.is_none() || one == other
-}
-
-impl Answers {
-    pub fn agree(&self, other: &Answers) -> bool {
-        self.plan_text == other.plan_text
-            && self.judge_text == other.judge_text
-            && same(&self.decisions, &other.decisions)
-    }
-}
-
-/// One input: a file and the flows to be decided if the file is accepted.
-pub struct Input {
-    pub file: Vec<u8>,
-    pub flows: Vec<Flow>,
-}
-
-impl Input {
-    pub fn new(seed: u64, index: u64) -> Input {
-        let file = inputs::make(seed, index);
-        let flows = (index * FLOWS_PER_INPUT..(index + 1) * FLOWS_PER_INPUT).map(|number| match read(&file) {
-            Ok(contents) if number % 2 == 0 => inputs::flow_near(&contents.rules, seed, number),
-            _ => inputs::flow(seed, number),
-        });
-        let flows = flows.collect();
-        Input { file, flows }
-    }
-}
-
-/// Our side.
-pub fn ours(input: &Input) -> Answers {
-    let decisions = read(&input.file).ok().map(|contents| {
-        let both = |flow| [contents.initial, contents.target].map(|policy| decide(&contents.rules, policy, flow));
-        input.flows.iter().map(both).collect()
-    });
-    Answers { plan_text: plan_text(&input.file), judge_text: judge_text(&input.file), decisions }
-}
+// ---- The other side ----
 
 /// Two programs that read a file from standard input and print its texts.
 pub struct Programs {
@@ -74,6 +24,7 @@ impl Programs {
     }
 }
 
+/// What a program prints for the file. One that stops reading early is no fault.
 fn output(command: &[String], file: &[u8]) -> io::Result<String> {
     let (name, arguments) = command.split_first().ok_or(io::ErrorKind::InvalidInput)?;
     let mut child = Command::new(name).args(arguments).stdin(Stdio::piped()).stdout(Stdio::piped()).spawn()?;
@@ -85,18 +36,22 @@ fn output(command: &[String], file: &[u8]) -> io::Result<String> {
     Ok(String::from_utf8_lossy(&printed.stdout).into_owned())
 }
 
-/// The other side. For now it runs two programs; without them there is none.
+/// The hook for the other implementation. A linked library is called here, with
+/// `input.file` for the texts and `input.made` for the entries; until then two
+/// programs stand in, and without them there is nothing to compare with.
 pub fn other(input: &Input, programs: Option<&Programs>) -> io::Result<Option<Answers>> {
     let Some(programs) = programs else { return Ok(None) };
     Ok(Some(Answers {
         plan_text: output(&programs.planlist, &input.file)?,
         judge_text: output(&programs.judgelist, &input.file)?,
-        decisions: None,
+        entries: None,
     }))
 }
 
+// ---- Counts by outcome ----
+
 /// The kind of a text: "refused N", "verdict N" or "planned".
-fn kind(text: &str) -> String {
+fn text_kind(text: &str) -> String {
     let mut words = text.split_whitespace();
     match (words.next(), words.next()) {
         (Some(word @ ("refused" | "verdict")), Some(number)) => format!("{word} {number:>2}"),
@@ -104,27 +59,48 @@ fn kind(text: &str) -> String {
     }
 }
 
-fn decision_kinds(answers: &Answers) -> Vec<String> {
-    let decisions = answers.decisions.iter().flatten().flatten();
-    decisions
-        .map(|decision| match decision {
-            Decision { permit: true, .. } => "permit by a rule".to_string(),
-            Decision { place: 0, .. } => "deny by default".to_string(),
-            _ => "deny by a rule".to_string(),
-        })
-        .collect()
+fn answer_kind<T>(answer: &Result<T, Refusal>, accepted: impl FnOnce(&T) -> String) -> String {
+    match answer {
+        Ok(answer) => accepted(answer),
+        Err(refusal) => format!("refused {:>2}", refusal.number),
+    }
+}
+
+fn decision_kind(decision: &Decision) -> String {
+    let words = match (decision.permit, decision.place) {
+        (true, _) => "permit by a rule",
+        (false, 0) => "deny by default",
+        (false, _) => "deny by a rule",
+    };
+    words.to_string()
 }
 
 #[derive(Default)]
 struct Counts(BTreeMap<String, u64>);
 
 impl Counts {
+    fn count(&mut self, who: &str, kind: String) {
+        *self.0.entry(format!("{who} {kind}")).or_default() += 1;
+    }
+
     fn add(&mut self, answers: &Answers) {
-        let texts = [("planlist", &answers.plan_text), ("judgelist", &answers.judge_text)];
-        let names = texts.iter().map(|(program, text)| format!("{program} {}", kind(text)));
-        let flows = decision_kinds(answers).into_iter().map(|kind| format!("decision {kind}"));
-        for name in names.chain(flows) {
-            *self.0.entry(name).or_default() += 1;
+        self.count("planlist", text_kind(&answers.plan_text));
+        self.count("judgelist", text_kind(&answers.judge_text));
+        if let Some(entries) = &answers.entries {
+            self.add_entries(entries);
+        }
+    }
+
+    fn add_entries(&mut self, entries: &Entries) {
+        self.count("entry write", answer_kind(&entries.write.answer, |_| "written".to_string()));
+        for plan in &entries.plans {
+            self.count("entry plan", answer_kind(&plan.answer, |_| "planned".to_string()));
+        }
+        if let Some(judge) = &entries.judge {
+            self.count("entry judge", answer_kind(judge, |numbers| format!("verdict {:>2}", numbers[0])));
+        }
+        for decision in entries.decisions.iter().flatten() {
+            self.count("entry decide", answer_kind(decision, decision_kind));
         }
     }
 
@@ -135,10 +111,19 @@ impl Counts {
     }
 }
 
+// ---- The driver ----
+
+fn hex(bytes: &[u8]) -> String {
+    bytes.iter().map(|byte| format!("{byte:02x}")).collect()
+}
+
 fn print_difference(index: u64, input: &Input, ours: &Answers, theirs: &Answers) {
-    let hex: String = input.file.iter().map(|byte| format!("{byte:02x}")).collect();
-    println!("input {index} differs\nfile {hex}\nflows {:?}", input.flows);
-    println!("ours {ours:#?}\nother {theirs:#?}");
+    let made = &input.made;
+    println!("input {index} differs\nfile {}", hex(&input.file));
+    println!("rules {}\ninitial {}\ntarget {}", hex(&made.rules), hex(&made.initial), hex(&made.target));
+    println!("keep {:?}\nscript {:?}", made.keep.as_deref().map(hex), made.script.as_deref().map(hex));
+    println!("room {} for a script, {} for a file\nflows {:?}", made.plan_room, made.file_room, input.flows);
+    println!("ours {ours:?}\nother {theirs:?}");
 }
 
 /// Compares so many inputs; false at the first difference.

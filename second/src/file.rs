@@ -62,7 +62,11 @@ pub fn list_value(list: &[u16]) -> Vec<u8> {
 type Tested = Result<(), u8>;
 
 fn refuse_if(wrong: bool, number: u8) -> Tested {
-    if wrong { Err(number) } else { Ok(()) }
+    if wrong {
+        Err(number)
+    } else {
+        Ok(())
+    }
 }
 
 fn test_length(tag: u8, length: usize) -> Tested {
@@ -177,13 +181,8 @@ impl<'a> Reader<'a> {
 
 /// Reads a deployment file, copying no value.
 pub fn read(file: &[u8]) -> Result<Contents<'_>, Refusal> {
-    let mut reader = Reader {
-        file,
-        position: 0,
-        last_tag: 0,
-        seen_rules: HashSet::new(),
-        contents: Contents::default(),
-    };
+    let mut reader =
+        Reader { file, position: 0, last_tag: 0, seen_rules: HashSet::new(), contents: Contents::default() };
     while reader.position < file.len() {
         reader.step().map_err(|number| Refusal { number, position: reader.position })?;
     }
@@ -315,6 +314,10 @@ mod tests {
         assert_eq!(refusal(&[9]), (1, 0));
         assert_eq!(refusal(&[9, 9]), (1, 0));
         assert_eq!(refusal(&[9, 9, 9]), (2, 0));
+        let script = [2, 0, 0, 3, 0, 0, 5, 0, 1, 1];
+        assert!(read(&script).is_ok());
+        assert_eq!(refusal(&[&script[..], &[5, 0]].concat()), (1, 10));
+        assert_eq!(refusal(&[&script[..], &[5, 0, 1]].concat()), (2, 10));
     }
 
     #[test]

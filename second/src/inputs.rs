@@ -6,6 +6,7 @@ mod draft;
 mod random;
 mod rules;
 mod scripts;
+mod values;
 
 use crate::policy::Flow;
 use damage::Field;
@@ -13,8 +14,10 @@ use draft::Draft;
 use random::Random;
 
 pub use rules::plain_rule;
+pub use values::MadeValues;
 
 const FLOWS: u64 = 0x666c_6f77;
+const VALUES: u64 = 0x7661_6c75;
 
 /// The input with this index.
 pub fn make(seed: u64, index: u64) -> Vec<u8> {
@@ -23,7 +26,7 @@ pub fn make(seed: u64, index: u64) -> Vec<u8> {
         0..=54 => damage::join(&draft_with_script(random).fields()),
         55..=82 => damaged_fields(random),
         83..=94 => damaged_bytes(random),
-        95..=98 => at_the_limits(random),
+        95..=98 => damage::join(&at_the_limits(random)),
         _ => random.bytes(64),
     }
 }
@@ -35,13 +38,17 @@ fn draft_with_script(random: &mut Random) -> Draft {
 }
 
 /// One damage made for one refusal; sometimes a second one, to test which is met first.
-fn damaged_fields(random: &mut Random) -> Vec<u8> {
+fn damaged(random: &mut Random) -> Vec<Field> {
     let mut fields = draft_with_script(random).fields();
     damage::one_field(random, &mut fields);
     if random.one_in(4) {
         damage::one_field(random, &mut fields);
     }
-    let mut bytes = damage::join(&fields);
+    fields
+}
+
+fn damaged_fields(random: &mut Random) -> Vec<u8> {
+    let mut bytes = damage::join(&damaged(random));
     if random.one_in(8) {
         damage::cut(random, &mut bytes);
     }
@@ -58,14 +65,24 @@ fn damaged_bytes(random: &mut Random) -> Vec<u8> {
 }
 
 /// Files at and just over the limits of rules, numbers and commands.
-fn at_the_limits(random: &mut Random) -> Vec<u8> {
+fn at_the_limits(random: &mut Random) -> Vec<Field> {
     let over = random.one_in(2);
-    let fields: Vec<Field> = match random.below(4) {
+    match random.below(4) {
         0 | 1 => draft::full_catalogue(random, over),
         2 => draft::full_policies(random, over),
         _ => draft::full_script(random, over),
+    }
+}
+
+/// The field values with this index, for the entries that take lists.
+pub fn values(seed: u64, index: u64) -> MadeValues {
+    let random = &mut Random::new(seed ^ VALUES, index);
+    let fields = match random.below(100) {
+        0..=49 => draft_with_script(random).fields(),
+        50..=95 => damaged(random),
+        _ => at_the_limits(random),
     };
-    damage::join(&fields)
+    values::gather(random, &fields)
 }
 
 /// The flow with this index, near the values that the made rules favour.

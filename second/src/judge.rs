@@ -177,8 +177,7 @@ mod tests {
 
     #[test]
     fn a_list_out_of_order_is_named() {
-        let script: Vec<Command> =
-            [1, 0, 2, 3].iter().flat_map(|&r| [DelRule { r }, App { r }]).collect();
+        let script: Vec<Command> = [1, 0, 2, 3].iter().flat_map(|&r| [DelRule { r }, App { r }]).collect();
         let verdict = judge(4, &[0, 1, 2, 3], &[1, 0, 2, 3], &script);
         assert_eq!(verdict, Verdict::NotOrdered { step: 1, place: 2 });
     }

@@ -1,6 +1,7 @@
 //! A second implementation of document 01, written from the document alone.
 //! It serves as the other side of comparisons and as a yardstick for speed.
 
+pub mod answers;
 pub mod brute;
 pub mod commands;
 pub mod compare;

@@ -36,11 +36,19 @@ impl RunningList {
     }
 
     fn test_rule(&self, rule: u16) -> Result<(), u8> {
-        if usize::from(rule) < self.there.len() { Ok(()) } else { Err(23) }
+        if usize::from(rule) < self.there.len() {
+            Ok(())
+        } else {
+            Err(23)
+        }
     }
 
     fn test_place(place: usize, most: usize) -> Result<(), u8> {
-        if (1..=most).contains(&place) { Ok(()) } else { Err(22) }
+        if (1..=most).contains(&place) {
+            Ok(())
+        } else {
+            Err(22)
+        }
     }
 
     fn put(&mut self, place: usize, rule: u16) -> Result<(), u8> {
@@ -87,11 +95,7 @@ pub struct Broken {
 }
 
 /// Replays all commands; `look` sees the list after each step.
-pub fn replay(
-    list: &mut RunningList,
-    commands: &[Command],
-    mut look: impl FnMut(usize, &[u16]),
-) -> Result<(), Broken> {
+pub fn replay(list: &mut RunningList, commands: &[Command], mut look: impl FnMut(usize, &[u16])) -> Result<(), Broken> {
     for (index, &command) in commands.iter().enumerate() {
         let step = index + 1;
         list.apply(command).map_err(|number| Broken { number, step })?;

@@ -44,6 +44,19 @@ pub fn in_order(keep: &[u16], policy: &[u16]) -> bool {
     places.is_some_and(|places| places.windows(2).all(|pair| pair[0] < pair[1]))
 }
 
+/// The planner's own choice: through the target, each common rule that stands
+/// in the initial policy after the last one kept.
+pub fn own_choice(initial: &[u16], target: &[u16]) -> Vec<u16> {
+    let mut kept: Vec<u16> = Vec::new();
+    for &rule in target {
+        let longer = [&kept[..], &[rule]].concat();
+        if in_order(&longer, initial) {
+            kept = longer;
+        }
+    }
+    kept
+}
+
 /// The list after a command, or the number 20 to 23.
 pub fn after(list: &[u16], command: Command, rules: u16) -> Result<Vec<u16>, u8> {
     let length = list.len();
@@ -119,9 +132,7 @@ pub fn verdict(initial: &[u16], target: &[u16], commands: &[Command], rules: u16
 pub fn opens_no_hole(lists: &[Vec<u16>], patterns: &[Pattern]) -> bool {
     let (initial, target) = (&lists[0], &lists[lists.len() - 1]);
     patterns.iter().all(|pattern| {
-        permits(initial, pattern)
-            || permits(target, pattern)
-            || !lists.iter().any(|list| permits(list, pattern))
+        permits(initial, pattern) || permits(target, pattern) || !lists.iter().any(|list| permits(list, pattern))
     })
 }
 

@@ -1,6 +1,8 @@
 //! The planners on all pairs of policies and all accepted keep lists.
 
-use super::literal::{changes_once, in_order, lists_of, opens_no_hole, patterns, policies, verdict, Pattern};
+use super::literal::{
+    changes_once, in_order, lists_of, opens_no_hole, own_choice, patterns, policies, verdict, Pattern,
+};
 use super::{must, Held};
 use crate::commands::Command;
 use crate::file::{check, list_value, Values};
@@ -84,7 +86,8 @@ impl Bench {
         case.must(deletes == initial.len() - common, "count of deletes")?;
         case.must(moves <= common - case.plan.kept, "count of moves")?;
         case.must(inserts + deletes + moves == case.plan.commands.len(), "an idle command")?;
-        case.must(keep.is_none_or(|keep| keep.len() == case.plan.kept), "count of kept rules")?;
+        let kept = keep.map_or_else(|| own_choice(initial, target).len(), <[u16]>::len);
+        case.must(kept == case.plan.kept, "count of kept rules")?;
         case.must(verdict == 32, "verdict of type 2")?;
         case.must(changes_once(&lists, &self.patterns), "a flow changes twice")
     }
@@ -142,5 +145,7 @@ pub fn test_all(rules: u16) -> Result<String, String> {
         }
     }
     let patterns = bench.patterns.len();
-    Ok(format!("{rules} rules, {pairs} pairs, {pairs} plans of type 1, {plans} of type 2, {patterns} patterns, all hold"))
+    Ok(format!(
+        "{rules} rules, {pairs} pairs, {pairs} plans of type 1, {plans} of type 2, {patterns} patterns, all hold"
+    ))
 }

@@ -81,8 +81,7 @@ impl Bench {
 
 /// Tests all scripts of up to so many commands over so many rules.
 pub fn test_all(rules: u16, commands: usize) -> Result<String, String> {
-    let mut bench =
-        Bench { rules, policies: policies(rules), patterns: patterns(rules), counts: BTreeMap::new() };
+    let mut bench = Bench { rules, policies: policies(rules), patterns: patterns(rules), counts: BTreeMap::new() };
     for initial in &bench.policies.clone() {
         for all in [type_1_commands(rules), type_2_commands(rules)] {
             bench.test_from(initial, &mut Vec::new(), &all, commands)?;

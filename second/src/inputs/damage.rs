@@ -2,9 +2,7 @@
 //! knows nothing of fields.
 
 use super::random::Random;
-use crate::file::{
-    HEAD_BYTES, RULE_BYTES, TAG_INITIAL, TAG_KEEP, TAG_RULE, TAG_SCRIPT, TAG_TARGET,
-};
+use crate::file::{HEAD_BYTES, RULE_BYTES, TAG_INITIAL, TAG_KEEP, TAG_RULE, TAG_SCRIPT, TAG_TARGET};
 
 /// A field before it is laid out; its head may say another length.
 #[derive(Clone)]
@@ -62,7 +60,11 @@ fn any_field(random: &mut Random, fields: &[Field]) -> Option<usize> {
 /// Index of a field with one of the tags.
 fn tagged(random: &mut Random, fields: &[Field], tags: &[u8]) -> Option<usize> {
     let found: Vec<usize> = (0..fields.len()).filter(|&at| tags.contains(&fields[at].tag)).collect();
-    if found.is_empty() { None } else { Some(random.pick(&found)) }
+    if found.is_empty() {
+        None
+    } else {
+        Some(random.pick(&found))
+    }
 }
 
 fn short_value(random: &mut Random, fields: &mut Vec<Field>) {

@@ -7,9 +7,8 @@ use std::collections::HashSet;
 
 const PROTOCOLS: [u32; 9] = [0, 1, 6, 17, 47, 127, 128, 254, 255];
 const PORTS: [u32; 12] = [0, 1, 22, 80, 255, 256, 1023, 1024, 32767, 32768, 65534, 65535];
-const ADDRESSES: [u32; 10] = [
-    0, 1, 0x0a00_0000, 0x0a00_00ff, 0x0aff_ffff, 0x7fff_ffff, 0x8000_0000, 0xc0a8_0101, 0xffff_fffe, u32::MAX,
-];
+const ADDRESSES: [u32; 10] =
+    [0, 1, 0x0a00_0000, 0x0a00_00ff, 0x0aff_ffff, 0x7fff_ffff, 0x8000_0000, 0xc0a8_0101, 0xffff_fffe, u32::MAX];
 
 /// For each of a rule's five numbers: favoured values, greatest value, bytes.
 const NUMBERS: [(&[u32], u32, usize); 5] = [

@@ -71,7 +71,11 @@ fn nudged(random: &mut Random, mut command: Command) -> Command {
 /// A rule of the catalogue that isn't in the list.
 fn absent_rule(random: &mut Random, list: &[u16], catalogue: usize) -> Option<u16> {
     let absent: Vec<u16> = (0..catalogue as u16).filter(|rule| !list.contains(rule)).collect();
-    if absent.is_empty() { None } else { Some(random.pick(&absent)) }
+    if absent.is_empty() {
+        None
+    } else {
+        Some(random.pick(&absent))
+    }
 }
 
 /// A command that succeeds on the list, if there is one.
@@ -133,7 +137,7 @@ fn inverse(list: &[u16], command: Command) -> Command {
 }
 
 fn stays_ordered(draft: &Draft, list: &[u16], commands: &[Command]) -> bool {
-    // Judged as if the script were to end here: 24 hides the order, so both ways are tried.
+    // A script that ends elsewhere gets 24 whatever its order, so it is led to the target first.
     let back = plan(2, list, &draft.target, None).commands;
     let whole = [commands, &back[..]].concat();
     let verdict = judge(draft.rules.len(), &draft.initial, &draft.target, &whole);
