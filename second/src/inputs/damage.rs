@@ -34,18 +34,18 @@ const ODD_TAGS: [u8; 9] = [0, 1, 2, 3, 4, 5, 6, 128, 255];
 
 /// Damages one field, or their order.
 pub fn one_field(random: &mut Random, fields: &mut Vec<Field>) {
-    match random.below(16) {
+    match random.below(18) {
         0 => short_value(random, fields),
         1 => other_tag(random, fields),
         2 => other_order(random, fields),
-        3 | 4 => fields.truncate(random.below(fields.len() + 1)),
-        5 => other_length(random, fields),
-        6 => said_length(random, fields),
-        7 => bad_rule(random, fields),
-        8 | 9 => equal_rule(random, fields),
-        10 => outside_number(random, fields),
-        11 => number_twice(random, fields),
-        12 | 13 => bad_keep(random, fields),
+        3 => fields.truncate(random.below(fields.len() + 1)),
+        4..=6 => other_length(random, fields),
+        7 | 8 => said_length(random, fields),
+        9 => bad_rule(random, fields),
+        10 => equal_rule(random, fields),
+        11 => outside_number(random, fields),
+        12 | 13 => number_twice(random, fields),
+        14 | 15 => bad_keep(random, fields),
         _ => bad_script(random, fields),
     }
 }
@@ -53,7 +53,7 @@ pub fn one_field(random: &mut Random, fields: &mut Vec<Field>) {
 fn any_field(random: &mut Random, fields: &[Field]) -> Option<usize> {
     let last = fields.len().checked_sub(1)?;
     // The last fields are the interesting ones.
-    let first = if random.one_in(2) { last.saturating_sub(4) } else { 0 };
+    let first = if random.one_in(3) { 0 } else { last.saturating_sub(3) };
     Some(random.between(first, last))
 }
 
