@@ -143,6 +143,9 @@ pub fn run(seed: u64, count: u64, programs: Option<&Programs>) -> io::Result<boo
         counts.add(&answers);
     }
     counts.print();
-    println!("seed {seed}: {count} inputs, {compared} compared, no difference");
+    match compared {
+        0 => println!("seed {seed}: {count} inputs, our side only, nothing compared"),
+        _ => println!("seed {seed}: {count} inputs, {compared} compared, no difference"),
+    }
     Ok(true)
 }
