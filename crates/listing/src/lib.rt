@@ -1,1 +1,3 @@
-// The text that the programs print. There is no function here yet: what is printed is in specs/.
+use deployment::Written;
+pub fn plan_text(file: &[u8], place: &mut [u8]) -> Written { Written::Bytes(0) }
+pub fn judge_text(file: &[u8], place: &mut [u8]) -> Written { Written::Bytes(0) }
