@@ -7,7 +7,7 @@ it, two bytes that say whether there is a keep list and a script, and the five f
 import sys
 from dataclasses import dataclass, replace
 
-from deployment_file import field, length_fits, make, numbers, listed, read, rule, value_fault
+from deployment_file import field, length_fits, listed, make, numbers, read, rule, value_fault
 
 
 @dataclass
@@ -121,7 +121,7 @@ def rooms():
     return out
 
 
-def short_rule(at, width):
+def falling_rule(at, width):
     """A rule whose low, at this place, is above its high."""
     r = bytearray(rule(9))
     r[at:at + 2 * width] = b"\1" * width + b"\0" * width
@@ -131,7 +131,7 @@ def short_rule(at, width):
 def faults():
     """For each test, values that it turns away, from the first test to the last."""
     r = base().rules
-    bounds = [b"\2" + rule(9)[1:], b"\xff" + rule(9)[1:]] + [short_rule(at, w) for at, w in ((1, 1), (3, 4), (11, 2), (15, 4), (23, 2))]
+    bounds = [b"\2" + rule(9)[1:], b"\xff" + rule(9)[1:]] + [falling_rule(at, w) for at, w in ((1, 1), (3, 4), (11, 2), (15, 4), (23, 2))]
     out = [[replace(base(), rules=x) for x in (r[:-1], r + b"\0", b"\1", r[:26], r + r[:13])]]
     out += [[with_rule(i, x) for x in bounds for i in (0, 2, 4)]]
     out += [[with_rule(i, rule(j, j % 2)) for i, j in ((1, 0), (4, 0), (4, 3), (3, 1))]]
@@ -165,7 +165,7 @@ def pairs():
 
 def doubles():
     """Two faults at once in one value."""
-    wrong = short_rule(3, 4)
+    wrong = falling_rule(3, 4)
     return [
         replace(base(), rules=wrong * 2 + b"\0"), replace(base(), rules=wrong * 2), replace(base(), rules=rule(0) * 2 + wrong),
         replace(base(), initial=numbers(5, 5)), replace(base(), target=numbers(0, 0, 5)), replace(base(), initial=numbers(5, 5) + b"\0"),

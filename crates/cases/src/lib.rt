@@ -52,7 +52,7 @@ pub fn bytes_at<'a>(row: &'a [u8], at: usize) -> &'a [u8] {
     )
 }
 
-// The place behind these bytes.
+// The place behind these bytes, further on while the row lasts.
 pub fn next_place(row: &[u8], at: usize) -> usize
     ensures { λ r. ⌜ length (now (row .entry)) - r ≤ length (now (row .entry)) - at - 1 ⌝ }
 {

@@ -12,7 +12,7 @@ use lib.Seq.{take-all, take-append-le, take-append-add, drop-append-le, length-t
 use borrow.Author.Tests.{leb-true, leb-false}
 use Rattle.policy.proofs.Tests.{byTest}
 use Rattle.deployment.specs.Bytes.{number, part}
-use Rattle.deployment.specs.File.{Fields, Reading, accepted, refused, readFile, needsScript, readToJudge}
+use Rattle.deployment.specs.File.{Fields, head-bytes, Reading, accepted, refused, readFile, needsScript, readToJudge}
 use Rattle.deployment.specs.Properties.{
   AreBytes,
   fieldsBytes,
@@ -90,8 +90,8 @@ module _ (f : Fields) (front rest : List ℕ) (long : 10244 ≤ length front) wh
 
   same-value : Whole f all → valueOf all ≡ valueOf front
   same-value h =
-      ap (λ (size : ℕ). part 3 size all) same-size
-      ∙ part-in-front 3 (sizeOf front) front rest (whole-front h .1)
+      ap (λ (size : ℕ). part head-bytes size all) same-size
+      ∙ part-in-front head-bytes (sizeOf front) front rest (whole-front h .1)
 
   fails-front : (why : Why) → FieldFails f all why → FieldFails f front why
   fails-front Cut h =
@@ -101,23 +101,17 @@ module _ (f : Fields) (front rest : List ℕ) (long : 10244 ≤ length front) wh
   fails-front Length h = (counted-front (h .0), rw (same-tag, same-size) at (h .1))
   fails-front TooMany h = (tagged-front (h .0), rw same-tag at (h .1))
   fails-front Bounds h =
-      let value = same-value (h .0) in
-      (whole-front (h .0), rw same-tag at (h .1), rw value at (h .2))
+      let value = same-value (h .0) in (whole-front (h .0), rw same-tag at (h .1), rw value at (h .2))
   fails-front Equal h =
-      let value = same-value (h .0) in
-      (whole-front (h .0), rw same-tag at (h .1), rw value at (h .2), rw value at (h .3))
+      let value = same-value (h .0) in (whole-front (h .0), rw same-tag at (h .1), rw value at (h .2), rw value at (h .3))
   fails-front Outside h =
-      let value = same-value (h .0) in
-      (whole-front (h .0), rw same-tag at (h .1), rw value at (h .2))
+      let value = same-value (h .0) in (whole-front (h .0), rw same-tag at (h .1), rw value at (h .2))
   fails-front Twice h =
-      let value = same-value (h .0) in
-      (whole-front (h .0), rw same-tag at (h .1), rw value at (h .2), rw value at (h .3))
+      let value = same-value (h .0) in (whole-front (h .0), rw same-tag at (h .1), rw value at (h .2), rw value at (h .3))
   fails-front Keep h =
-      let value = same-value (h .0) in
-      (whole-front (h .0), rw same-tag at (h .1), rw value at (h .2))
+      let value = same-value (h .0) in (whole-front (h .0), rw same-tag at (h .1), rw value at (h .2))
   fails-front Coding h =
-      let value = same-value (h .0) in
-      (whole-front (h .0), rw same-tag at (h .1), rw value at (h .2))
+      let value = same-value (h .0) in (whole-front (h .0), rw same-tag at (h .1), rw value at (h .2))
   fails-front NoScript h = absurd h
   fails-front Room h = absurd h
 
