@@ -64,28 +64,29 @@ replay-keeps : (r : Replayed) (place : List ℕ) → Keeps (replayLeft r place) 
 unfolding replayLeft listLeft leftBy ranTo writing unwritten
 replay-keeps (ended last) place =
     byTest (leb (length (numbersBytes last)) (length place)) (λ room. rw room (λ written. absurd written)) (λ small. rw small (λ nothing. refl))
-replay-keeps (broken fault step) place nothing = refl
+replay-keeps (broken fault step) place = λ nothing. refl
 
 reading-keeps : (reading : Reading) (place : List ℕ) → Keeps (replayedReading reading place) place
 unfolding replayedReading leftBy
 reading-keeps (accepted c) place = replay-keeps (replayedContents c) place
-reading-keeps (refused refusal) place nothing = refl
+reading-keeps (refused refusal) place = λ nothing. refl
 
 values-keep : (read : Checked Replayed) (place : List ℕ) → Keeps (replayedAtZero read place) place
 unfolding replayedAtZero leftBy
 values-keep (good r) place = replay-keeps r place
-values-keep (bad why) place nothing = refl
+values-keep (bad why) place = λ nothing. refl
 
 -- what holds of the definition's answer holds of one that equals it
-kept : {answer : Ran} {now : List ℕ} (left : Left) (place : List ℕ) → leftBy answer now ≡ left → Keeps left place → NothingWritten answer → now ≡ place
+kept : (answer : Ran) (now : List ℕ) (left : Left) (place : List ℕ) → leftBy answer now ≡ left → Keeps left place
+    → NothingWritten answer → now ≡ place
 unfolding leftBy
-kept left place e keeps = rw (← e) at keeps
+kept answer now left place e keeps = rw (← e) at keeps
 
 pub a-file-that-gives-no-list-keeps-the-place : (κ : _) (a : _) (r : Ran) (e : _) → replay-file.Post κ a r e → NothingWritten r
     → now (e .1 .0) ≡ now (a .1 .0)
-a-file-that-gives-no-list-keeps-the-place κ a r e p = kept _ (now (a .1 .0)) p (reading-keeps (readToJudge (now (a .0))) (now (a .1 .0)))
+a-file-that-gives-no-list-keeps-the-place κ a r e p = kept r _ _ (now (a .1 .0)) p (reading-keeps (readToJudge (now (a .0))) (now (a .1 .0)))
 
 pub lists-that-give-no-list-keep-the-place : (κ : _) (a : _) (r : Ran) (e : _) → replay-lists.Post κ a r e → NothingWritten r
     → now (e .1 .1 .1 .0) ≡ now (a .1 .1 .1 .0)
 lists-that-give-no-list-keep-the-place κ a r e p =
-    kept _ (now (a .1 .1 .1 .0)) p (values-keep (replayedValues (now (a .0)) (now (a .1 .0)) (now (a .1 .1 .0))) (now (a .1 .1 .1 .0)))
+    kept r _ _ (now (a .1 .1 .1 .0)) p (values-keep (replayedValues (now (a .0)) (now (a .1 .0)) (now (a .1 .1 .0))) (now (a .1 .1 .1 .0)))
