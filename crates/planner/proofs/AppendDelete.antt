@@ -6,25 +6,24 @@ use native.Mathlib.Numerals.{add-one}
 use native.Mathlib.Omega.{arith}
 use mathlib.Core.Path.{_≡_, refl, sym, _∙_, ap}
 use mathlib.Core.Bool.{Bool, true, false, not}
-use mathlib.Core.List.{List, [], _∷_, _++_, map, map-append, reverse, reverse-cons, List·Memᴰ·head, List·Memᴰ·tail, Memᴰ·append-right}
-use borrow.Author.Tests.{eqb-true, eqb-false, eq-eqb, ne-eqb}
-use lib.Dec.{eqb}
-use lib.ListN.{length, getD, set, take, drop, replicate, length-map, length-drop, length-append, getD-replicate, drop-of-length-le}
-use lib.Seq.{sets, take-suc, drop-cons, take-all, getD-drop, getD-set-same, getD-set-other, length-take-le, take-at}
+use mathlib.Core.List.{List, [], _∷_, _++_, map, map-append, reverse, reverse-cons, List·Memᴰ·head, List·Memᴰ·tail}
+use borrow.Author.Tests.{eq-eqb, ne-eqb}
+use lib.ListN.{length, getD, set, take, drop, length-map, length-drop, length-append, drop-of-length-le}
+use lib.Seq.{sets, take-suc, drop-cons, take-all, getD-drop, length-take-le, take-at}
 use Rattle.policy.specs.AppendDelete.{keptRun, planOne}
 use Rattle.policy.specs.Lists.{mem, missing, pick}
 use Rattle.policy.specs.Properties.{In, Distinct}
 use Rattle.policy.specs.Command.{coded}
 use Rattle.policy.specs.declared.Command.{Command}
 use Rattle.policy.specs.declared.Command.the-variants.{App, DelRule}
-use Rattle.policy.proofs.Tests.{byTest}
-use Rattle.policy.proofs.Lists.{in-mem}
 use Rattle.policy.proofs.AppendDelete.{kept-run-front, plan-one-count}
 use Rattle.deployment.specs.Values.{codedBytes}
 use Rattle.planner.specs.Sending.{scriptHead, Sent}
+use Rattle.planner.specs.Marks.{Marks}
 use Rattle.planner.specs.AppendDelete.{deletes, appends}
 use Rattle.planner.specs.Plans.{madeOneOf, Placed}
 use Rattle.planner.proofs.Sending.{none-sent, put-sent, sent-more, placed}
+use Rattle.planner.proofs.Marks.{marks-more, marks-past}
 
 -- The run that is kept: k rules of it are found in the first i of the initial policy.
 abbrev pub Found : List ℕ → List ℕ → ℕ → ℕ → Type 0
@@ -70,36 +69,15 @@ module _ (initial target : List ℕ) where
       found-enough all = found ∙ (rw (drop-of-length-le target all, kept-nothing (drop i initial), kept-nothing (drop (i + 1) initial)))
 
 -- Marks.
-abbrev pub Marks : List Bool → List ℕ → Type 0
-Marks marks l = (r : ℕ) → r < 1024 → getD marks r false ≡ mem r l
-
-mem-last : (r x : ℕ) (l : List ℕ) → ¬ (x ≡ r) → mem r (l ++ (x ∷ [])) ≡ mem r l
-unfolding mem
-mem-last r x [] other = rw (ne-eqb x r other)
-mem-last r x (y ∷ l) other = rw (mem-last r x l other)
-
-pub marks-none : (l : List ℕ) → Marks (replicate 1024 false) (take 0 l)
-unfolding mem
-marks-none l r h = getD-replicate 1024 r false false h
-
 module _ (marks : List Bool) (l : List ℕ) (i : ℕ) (before : Marks marks (take i l)) (more : i < length l) where
   last : take (i + 1) l ≡ take i l ++ (getD l i 0 ∷ [])
   last = rw add-one (take-suc l i 0 more)
 
   pub marks-one : length marks ≡ 1024 → getD l i 0 < 1024 → Marks (set marks (getD l i 0) true) (take (i + 1) l)
-  marks-one long small r h =
-      byTest (eqb (getD l i 0) r)
-      (λ t.
-      let same = eqb-true (getD l i 0) r t in
-      rw (last, same)
-      (getD-set-same marks r true false (omega arith) ∙ sym (in-mem r _ (Memᴰ·append-right (take i l) (List·Memᴰ·head refl)))))
-      (λ f.
-      let other = eqb-false (getD l i 0) r f in
-      rw (last, mem-last r (getD l i 0) (take i l) other)
-      (getD-set-other marks (getD l i 0) r true false (λ e. other (sym e)) ∙ before r h))
+  marks-one long small = rw last (marks-more marks (take i l) (getD l i 0) before long small)
 
-  pub marks-past : 1024 ≤ getD l i 0 → Marks marks (take (i + 1) l)
-  marks-past large r h = rw (last, mem-last r (getD l i 0) (take i l) (λ e. omega arith)) (before r h)
+  pub marks-out : 1024 ≤ getD l i 0 → Marks marks (take (i + 1) l)
+  marks-out large = rw last (marks-past marks (take i l) (getD l i 0) before large)
 
 -- The deletes: the last k rules are gone through, and n of them are not marked.
 pub record Deleting (marks : List Bool) (l : List ℕ) (rules : ℕ) (old field : List ℕ) (n k : ℕ) : Type 0 where

@@ -1,6 +1,6 @@
 -- The first stage, rule by rule of the target. What is kept of the target still to be taken occurs in order in the rest; so a kept rule is there
 -- when it is taken. At the end a rule of the front is settled exactly when it is marked, since the rules differ. Assumes nothing.
-use Prim.Native.Nat.{ℕ, zero, suc, _+_, _≤_, _<_}
+use Prim.Native.Nat.{ℕ, suc, _+_, _≤_, _<_}
 use native.Mathlib.Numerals.{add-one}
 use native.Mathlib.Omega.{arith}
 use mathlib.Core.Path.{_≡_, refl, sym, _∙_, ap, ap₂, subst}
@@ -28,7 +28,8 @@ use Rattle.running.specs.declared.Running.{Running}
 use Rattle.running.specs.Running.{view}
 use Rattle.planner.specs.declared.insert_delete_move.Stage.{Stage}
 use Rattle.planner.specs.Sending.{Sent}
-use Rattle.planner.specs.InsertDeleteMove.{Marks, settledIn, Stands, takes, Did, Took, standingBy, frontOf, FirstStage}
+use Rattle.planner.specs.Marks.{Marks}
+use Rattle.planner.specs.InsertDeleteMove.{settledIn, Stands, takes, Did, Took, standingBy, frontOf, FirstStage}
 use Rattle.planner.proofs.Sending.{none-sent, sent-more}
 use Rattle.planner.proofs.StageOne.{settled-join}
 
@@ -145,11 +146,11 @@ unfolding standingBy ruleOf
 standing-marked marks front right d small = map-back (standingBy marks) front same
   where
     same : (x : Standing) → List·Memᴰ x front → standingBy marks (ruleOf x) ≡ x
-    same (settled r) h = rw (right .1 r (small r (Memᴰ·map ruleOf h)), in-mem r (settledIn front) (settled-listed r front h))
+    same (settled r) h = rw (right r (small r (Memᴰ·map ruleOf h)), in-mem r (settledIn front) (settled-listed r front h))
     same (waiting r) h =
         let absent : mem r (settledIn front) ≡ false =
         not-in r (settledIn front) (λ k. settled-waiting r r (one-standing (settled r) (waiting r) front d (listed-settled r front k) h refl)) in
-        rw (right .1 r (small r (Memᴰ·map ruleOf h)), absent)
+        rw (right r (small r (Memᴰ·map ruleOf h)), absent)
 
 -- The front at the end of the first stage: its rules differ, and are those of the two policies.
 module _ (initial target kept : List ℕ) (given : Given 1024 initial target kept) where
@@ -186,14 +187,14 @@ pub record Turn (initial target kept old : List ℕ) (stage : Stage) (field : Li
   pub pending : Sublistᴰ (common (drop j target) kept) (halves .rest)
 
 module _ (initial target kept : List ℕ) (given : Given 1024 initial target kept) (old : List ℕ) where
-  pub turn-first : (list : Running) (marks : List Bool) → view list ≡ initial → Marks marks [] → length old ≡ 5124
+  pub turn-first : (list : Running) (marks : List Bool) → view list ≡ initial → length marks ≡ 1024 → Marks marks [] → length old ≡ 5124
       → Turn initial target kept old (record { list = list; front = 0; settled = marks; sent = 0 }) old 0
   unfolding firstStage settledIn
-  turn-first list marks is right long =
+  turn-first list marks is slots right long =
       record {
         halves = record { front = []; rest = initial };
         commands = [];
-        stands = record { is = is; counted = refl; marks = right };
+        stands = record { is = is; counted = refl; slots = slots; marks = right };
         next = refl;
         all = refl;
         counted = refl;

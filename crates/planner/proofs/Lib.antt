@@ -1,7 +1,9 @@
 -- Laws that the proofs of the planners cite.
 pub mod Sending
-pub mod AppendDelete
+pub mod LentPlace
+pub mod GivenLists
 pub mod Marks
+pub mod AppendDelete
 pub mod Places
 pub mod Looking
 pub mod Edits

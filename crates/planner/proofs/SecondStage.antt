@@ -1,10 +1,10 @@
 -- The second stage, place by place from the last to the first. The list is what is left of the front, then the settled rules behind it; a rule
 -- of the target stands after another exactly when its place is greater. Assumes nothing.
-use Prim.Native.Nat.{ℕ, zero, suc, _+_, _*_, _-_, _≤_, _<_}
+use Prim.Native.Nat.{ℕ, suc, _+_, _*_, _-_, _≤_, _<_}
 use native.Mathlib.Numerals.{add-one}
 use native.Mathlib.Omega.{arith}
-use mathlib.Core.Path.{_≡_, refl, sym, _∙_, ap, ap₂, fun-ext}
-use mathlib.Core.Bool.{Bool, true, false, cond, not}
+use mathlib.Core.Path.{_≡_, refl, sym, _∙_, ap, fun-ext}
+use mathlib.Core.Bool.{Bool, true, false, cond}
 use mathlib.Core.List.{List, [], _∷_, _++_, map, map-append, reverse, reverse-append, append-assoc, append-nil}
 use borrow.Author.Tests.{ltb-true, ltb-false, le-ltb}
 use lib.Dec.{ltb}
@@ -13,8 +13,8 @@ use lib.Seq.{sets, take-suc, drop-append-add, append-snoc, length-take-le, getD-
 use Rattle.policy.specs.Lists.{mem, after}
 use Rattle.policy.specs.Properties.{In}
 use Rattle.policy.specs.Claims.{Policy}
-use Rattle.policy.specs.Command.{coded, lifted, placed, moved}
-use Rattle.policy.specs.InsertDeleteMove.{Standing, settled, waiting, ahead, stageTwo, secondStage}
+use Rattle.policy.specs.Command.{coded, lifted, moved}
+use Rattle.policy.specs.InsertDeleteMove.{Standing, waiting, ahead, stageTwo, secondStage}
 use Rattle.policy.specs.declared.Command.{Command}
 use Rattle.policy.specs.declared.Command.the-variants.{DelPlace, Mov}
 use Rattle.policy.proofs.Tests.{byTest, truly}
@@ -28,7 +28,7 @@ use Rattle.running.specs.Places.{placeIn, Says}
 use Rattle.running.proofs.Says.{absent-place, place-present, place-zero}
 use Rattle.planner.specs.Sending.{Sent}
 use Rattle.planner.specs.InsertDeleteMove.{until, settling, settledDone, Lowered, standingBy}
-use Rattle.planner.proofs.Sending.{none-sent, put-sent, sent-more}
+use Rattle.planner.proofs.Sending.{none-sent, one-sent, sent-more}
 use Rattle.planner.proofs.Places.{drop-in, place-after, place-order}
 use Rattle.planner.proofs.Looking.{until-fits}
 
@@ -59,16 +59,13 @@ module _ (target places : List ℕ) (policy : Policy 1024 target) (says : Says p
 -- One waiting rule.
 module _ (target places : List ℕ) (policy : Policy 1024 target) (says : Says places target) (list next : Running) (r i sent : ℕ) (field written : List ℕ)
     (long : length field ≡ 5124) (room : sent < 1024) (small : r < 1024) (u done : List ℕ) (is : view list ≡ u ++ (r ∷ done)) (at : i ≡ suc (length u)) where
-  one-put : (c : Command) → written ≡ sets field (4 + 5 * sent) (codedBytes (coded c)) → Sent field sent (c ∷ []) written
-  one-put c e = put-sent sent c (none-sent field sent long (omega arith)) (omega arith) room e
-
   -- "One that is not in the target is deleted."
   pub did-delete : getD places r 0 ≡ 0 → view next ≡ lifted i (view list) → written ≡ sets field (4 + 5 * sent) (codedBytes (coded (DelPlace i)))
       → (view next ≡ u ++ settledDone target r done) × Sent field sent (settling target i r done ∷ []) written
   unfolding settledDone settling
   did-delete none gone put =
       let absent : mem r target ≡ false = place-zero r target (sym (says .1 r small) ∙ none) in
-      rw absent (gone ∙ lifted-at u r done at is, one-put (DelPlace i) put)
+      rw absent (gone ∙ lifted-at u r done at is, one-sent sent (DelPlace i) long room put)
 
   -- "Any other is moved to stand just before the first settled rule that follows it in the target, or to the end if there is none"
   pub did-lower : (place j : ℕ) → place ≡ getD places r 0 → ¬ (place ≡ 0)
@@ -95,7 +92,7 @@ module _ (target places : List ℕ) (policy : Policy 1024 target) (says : Says p
             (ap (λ (l : List ℕ). u ++ l) parts ∙ sym (append-assoc u first second))
             ∙ append-assoc u first (r ∷ second)
             ∙ ap (λ (l : List ℕ). u ++ l) (sym (placed-at r first second (ap suc (sym long-first)) parts)),
-        one-put (Mov i (i + k)) (put ∙ ap (λ (n : ℕ). sets field (4 + 5 * sent) (codedBytes (coded (Mov i n)))) to),
+        one-sent sent (Mov i (i + k)) long room (put ∙ ap (λ (n : ℕ). sets field (4 + 5 * sent) (codedBytes (coded (Mov i n)))) to),
       )
 
 -- The loop: the first i rules are left of the front, `done` stands behind them, and the rest of the second stage is still to be done.

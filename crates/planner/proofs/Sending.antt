@@ -72,6 +72,11 @@ put-sent {field = field} {next} m c before is room e =
       put = rw (one-record c) e;
     })
 
+-- one command, put as number n
+pub one-sent : {old field : List ℕ} (n : ℕ) (c : Command) → length old ≡ 5124 → n < 1024
+    → field ≡ sets old (4 + 5 * n) (codedBytes (coded c)) → Sent old n (c ∷ []) field
+one-sent {old} n c long room e = put-sent n c (none-sent old n long (omega arith)) (omega arith) room e
+
 -- A script's field is its head and its records.
 field-parts : (s : Script) → fieldBytes script-tag (scriptBytes s) ≡ scriptHead (s .type) (length (s .commands)) ++ records (s .commands)
 unfolding fieldBytes scriptBytes scriptHead records bytesOf

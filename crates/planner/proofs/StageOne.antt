@@ -1,13 +1,12 @@
 -- One rule of the target in the first stage: what the planner holds stands for the two halves of the definition, before and after.
 -- The running list is the front, then the rest; a rule that joins settled is marked. Assumes nothing.
-use Prim.Native.Nat.{ℕ, zero, suc, _+_, _*_, _≤_, _<_}
-use native.Mathlib.Numerals.{add-one}
+use Prim.Native.Nat.{ℕ, suc, _+_, _*_, _<_}
 use native.Mathlib.Omega.{arith}
 use mathlib.Core.Path.{_≡_, refl, sym, _∙_, ap, ap₂}
-use mathlib.Core.Bool.{Bool, true, false, not}
+use mathlib.Core.Bool.{Bool, true, false}
 use mathlib.Core.List.{List, [], _∷_, _++_, map, map-append, append-assoc, append-nil}
 use lib.Dec.{eqb}
-use lib.ListN.{length, drop, set, length-append, length-map}
+use lib.ListN.{length, drop, set, length-append, length-map, length-set}
 use lib.Seq.{append-snoc, drop-at, sets}
 use Rattle.policy.specs.Lists.{mem, before, after, without}
 use Rattle.policy.specs.Properties.{In}
@@ -25,7 +24,7 @@ use Rattle.running.specs.Running.{view}
 use Rattle.planner.specs.declared.insert_delete_move.Stage.{Stage}
 use Rattle.planner.specs.Sending.{Sent}
 use Rattle.planner.specs.InsertDeleteMove.{settledIn, Stands, takes, Did, until}
-use Rattle.planner.proofs.Sending.{none-sent, put-sent}
+use Rattle.planner.proofs.Sending.{none-sent, one-sent}
 use Rattle.planner.proofs.Marks.{marks-more}
 
 -- The settled rules of a front.
@@ -96,7 +95,8 @@ stands-joined stage h st list front r sent between rest small counted is =
           );
       marks =
           rw (joins, settled-append (h .front ++ map waiting between) (settled r ∷ []), settled-join (h .front) between)
-          (marks-more (stage .settled) (settledIn (h .front)) r small (st .marks));
+          (marks-more (stage .settled) (settledIn (h .front)) r (st .marks) (st .slots) small);
+      slots = length-set (stage .settled) r true ∙ st .slots;
     }
 
 -- One rule of the target, by the four cases.
@@ -120,9 +120,7 @@ module _ (stage : Stage) (h : Halves) (st : Stands stage h) (r : ℕ) (field : L
 
   one-put : (c d : Command) (written : List ℕ) → c ≡ d → written ≡ sets field (4 + 5 * stage .sent) (codedBytes (coded c))
       → Sent field (stage .sent) (d ∷ []) written
-  one-put c d written same e =
-      put-sent (stage .sent) d (none-sent field (stage .sent) long (omega arith)) (omega arith) room
-      (e ∙ ap (λ (c : Command). sets field (4 + 5 * stage .sent) (codedBytes (coded c))) same)
+  one-put c d written same e = rw same at (one-sent (stage .sent) c long room e)
 
   module _ (small : r < 1024) (old keep : Bool) (next : Stage) (written : List ℕ) where
     -- "not in the initial policy: insert it right after the front; it joins, settled"

@@ -17,11 +17,8 @@ use Rattle.running.specs.declared.Places.{Places}
 use Rattle.running.specs.Running.{view}
 use Rattle.running.specs.Places.{Says}
 use Rattle.planner.specs.Sending.{Sent}
+use Rattle.planner.specs.Marks.{Marks}
 use Rattle.planner.specs.declared.insert_delete_move.Stage.{Stage}
-
--- an array of marks: those of the rules of a list are set
-abbrev pub Marks : List Bool → List ℕ → Type 0
-Marks marks l = (length marks ≡ most-rules) × ((r : ℕ) → r < most-rules → getD marks r false ≡ mem r l)
 
 -- the settled rules of a front
 unfoldable pub settledIn : List Standing → List ℕ
@@ -33,6 +30,7 @@ settledIn (waiting r ∷ front) = settledIn front
 pub record Stands (stage : Stage) (h : Halves) : Type 0 where
   pub is : view (stage .list) ≡ map ruleOf (h .front) ++ h .rest
   pub counted : stage .front ≡ length (h .front)
+  pub slots : length (stage .settled) ≡ most-rules
   pub marks : Marks (stage .settled) (settledIn (h .front))
 
 -- one rule of the target, by the four cases in their order: whether it is in the initial policy, and whether it is kept

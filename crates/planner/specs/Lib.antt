@@ -1,5 +1,6 @@
 -- What the planners answer and write, over the definitions of the crates below.
 pub mod Sending
+pub mod Marks
 pub mod AppendDelete
 pub mod InsertDeleteMove
 pub mod Plans

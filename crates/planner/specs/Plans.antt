@@ -66,17 +66,23 @@ pub record Left : Type 0 where
   pub answer : Planned
   pub place : List ℕ
 
--- "13 last": what is written where the room is enough
+abbrev pub leftBy : Planned → List ℕ → Left
+leftBy answer place = record { answer = answer; place = place }
+
+-- "and last 13": a plan and its field, written where the room is enough; else "bytes needed"
+unfoldable pub sentPlan : Plan → List ℕ → List ℕ → Left
+sentPlan plan field place =
+    cond (leb (length field) (length place))
+    (leftBy (Done plan) (filled place field))
+    (leftBy (Turned (record { why = Room; at = length field })) place)
+
 unfoldable pub placedPlan : Made → List ℕ → Left
-placedPlan made place =
-    cond (leb (length (scriptField made)) (length place))
-    (record { answer = Done (planOf made); place = filled place (scriptField made) })
-    (record { answer = Turned (record { why = Room; at = length (scriptField made) }); place = place })
+placedPlan made place = sentPlan (planOf made) (scriptField made) place
 
 -- the whole answer of a planner to what is read of a file or of field values; "When turned away, every lent place keeps its bytes"
 unfoldable pub planned : (Contents → Made) → Reading → List ℕ → Left
 planned planner reading place =
     elim reading [
       | accepted c ↦ placedPlan (planner c) place
-      | refused refusal ↦ record { answer = Turned refusal; place = place }
+      | refused refusal ↦ leftBy (Turned refusal) place
     ]

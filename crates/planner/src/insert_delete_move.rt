@@ -1,4 +1,5 @@
-// The script for insert, delete and move.
+// The script for insert, delete and move. The first stage takes the target's rules in order, the second the waiting rules from last place to
+// first; a command is put into the field as it is done on the running list, whose places it names.
 
 ghost use mathlib.Core.Path.{_≡_};
 ghost use mathlib.Core.Bool.{true};
@@ -29,7 +30,7 @@ use running::Running;
 struct Stage {
     list: Running,
     front: usize,
-    settled: [bool; 1024],
+    settled: [bool; MOST],
     sent: usize,
 }
 
@@ -41,11 +42,11 @@ fn own_choice(initial: Running, target: Running) -> Running
     let from = Places::none().numbered(initial, 0);
     let len = target.count();
     let rules = target.rules;
-    let mut kept = [0u16; 1024];
+    let mut kept = [0u16; MOST];
     let mut count = 0;
     let mut last = 0;
-    for j in 0..len {
-        let r = rules[j];
+    for i in 0..len {
+        let r = rules[i];
         let place = from.place(r);
         if last < place {
             kept[count] = r;
@@ -93,15 +94,17 @@ impl Stage {
     }
 }
 
-// One rule of the target. `old`: it is in the initial policy; `keep`: it is kept.
+// One rule of the target: whether it is in the initial policy, and whether it is kept.
 fn take_one(stage: Stage, r: u16, old: bool, keep: bool, field: &mut [u8]) -> Stage
-    requires { ⌜ (stage .front ≤ length (view (stage .list))) × (length (view (stage .list)) < 1024) × (r < 1024) × (stage .sent < 1024) × (length (now field) ≡ 5124) ⌝ }
+    requires { ⌜ (stage .front ≤ length (view (stage .list))) × (length (view (stage .list)) < 1024) × (r < 1024) × (stage .sent < 1024)
+        × (length (now field) ≡ 5124) ⌝ }
     ensures { λ s. ⌜ Took stage r old keep (now (field .entry)) s (now (field .exit)) ⌝ }
 {
     let list = stage.list;
     let front = stage.front;
     let sent = stage.sent;
     let next = front + 1;
+    // "Not in the initial policy: insert it right after the front; it joins, settled."
     if !old {
         put(field, sent, Command::Ins(next as u16, r));
         let edited = list.ins(MOST, next, r, 0);
@@ -109,12 +112,15 @@ fn take_one(stage: Stage, r: u16, old: bool, keep: bool, field: &mut [u8]) -> St
         return stage.joined(longer, next, r, sent + 1);
     }
     let at = seek(list, front, r);
+    // "Kept: every rule between the front and it joins the front, waiting; it joins, settled."
     if keep {
         return stage.joined(list, at + 1, r, sent);
     }
+    // "Already in the front: it waits."
     if at == list.count() {
         return stage;
     }
+    // "Move it right after the front, or send nothing if it stands there; it joins, settled."
     if at == front {
         return stage.joined(list, next, r, sent);
     }
@@ -124,7 +130,7 @@ fn take_one(stage: Stage, r: u16, old: bool, keep: bool, field: &mut [u8]) -> St
     stage.joined(other, next, r, sent + 1)
 }
 
-// The first stage.
+// "First stage. The front of the running list starts empty. Take the target's rules in order."
 fn stage_one(initial: Running, target: Running, kept: Running, field: &mut [u8]) -> Stage
     requires { ⌜ Accepted 1024 (view initial) (view target) (some (view kept)) × (length (view initial) ≤ 512) × (length (view target) ≤ 512)
         × (length (now field) ≡ 5124) ⌝ }
@@ -137,7 +143,7 @@ fn stage_one(initial: Running, target: Running, kept: Running, field: &mut [u8])
     let mut stage = Stage {
         list: initial,
         front: 0,
-        settled: [false; 1024],
+        settled: [false; MOST],
         sent: 0,
     };
     for j in 0..len {
@@ -154,17 +160,18 @@ fn first_above(list: Running, from: usize, to: Places, place: usize) -> usize
 {
     let len = list.count();
     let rules = list.rules;
-    let mut k = from;
-    while k < len {
-        if place < to.place(rules[k]) {
-            return k;
+    let mut at = from;
+    while at < len {
+        if place < to.place(rules[at]) {
+            return at;
         }
-        k += 1;
+        at += 1;
     }
-    k
+    at
 }
 
-// One waiting rule, r at place i, all behind it settled: deleted, or moved.
+// One waiting rule, r at place i, with settled rules alone behind it: "One that is not in the target is deleted. Any other is moved to stand just
+// before the first settled rule that follows it in the target, or to the end if there is none."
 fn settle(list: Running, i: usize, r: u16, to: Places, sent: usize, field: &mut [u8]) -> Running
     requires { ⌜ (0 < i) × (i ≤ length (view list)) × (r < 1024) × (sent < 1024) × (length (now field) ≡ 5124) ⌝ }
     ensures { λ s. ⌜ Lowered to list i r sent (now (field .entry)) s (now (field .exit)) ⌝ }
@@ -181,7 +188,7 @@ fn settle(list: Running, i: usize, r: u16, to: Places, sent: usize, field: &mut 
     edited.list
 }
 
-// The second stage: answers how many commands are sent then.
+// "Second stage. Take the waiting rules from last place to first." Answers how many commands are sent then.
 fn stage_two(stage: Stage, target: Running, field: &mut [u8]) -> usize
     requires { ⌜ Policy 1024 (view target) × ((r : ℕ) → In r (view (stage .list)) → r < 1024)
         × (stage .sent + length (secondStage (view target) (frontOf stage)) ≤ 1024) × (length (now field) ≡ 5124) ⌝ }
@@ -192,15 +199,15 @@ fn stage_two(stage: Stage, target: Running, field: &mut [u8]) -> usize
     let settled = stage.settled;
     let mut list = stage.list;
     let mut sent = stage.sent;
-    let mut i = list.count();
-    while 0 < i {
+    let len = list.count();
+    for k in 0..len {
+        let at = len - 1 - k;
         let rules = list.rules;
-        let r = rules[i - 1];
+        let r = rules[at];
         if !settled[r as usize] {
-            list = settle(list, i, r, to, sent, field);
+            list = settle(list, at + 1, r, to, sent, field);
             sent += 1;
         }
-        i -= 1;
     }
     sent
 }

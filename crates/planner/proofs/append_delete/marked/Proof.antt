@@ -7,7 +7,9 @@ use native.Mathlib.Omega.{arith}
 use borrow.Author.Needs.{needs}
 use lib.ListN.{length, take, length-set}
 use Rattle.deployment.specs.Values.{numbersOf}
-use Rattle.planner.proofs.AppendDelete.{Marks, marks-none, marks-one, marks-past}
+use Rattle.planner.specs.Marks.{Marks}
+use Rattle.planner.proofs.Marks.{marks-none}
+use Rattle.planner.proofs.AppendDelete.{marks-one, marks-out}
 use Rattle.planner.proofs.append_delete.marked.Statement.{statement}
 use Rattle.planner.proofs.append_delete.marked.Tie as tie
 
@@ -19,7 +21,7 @@ abbrev μ-loop : tie.MeasureT-loop
 μ-loop list count marks₀ i₀ marks i = count - i
 
 loop-holds : tie.Need-loop-holds Inv-loop μ-loop
-loop-holds c = (omega arith, c .before .pre, refl, marks-none (numbersOf (c .before .args .list .now)))
+loop-holds c = (omega arith, c .before .pre, refl, marks-none)
 
 number-at-requires : tie.Need-number-at-requires Inv-loop μ-loop
 number-at-requires c κs = search needs
@@ -51,7 +53,7 @@ loop-again c =
       simp length-set (inv .2),
       rw is (marks-one marks l i (inv .3) more (inv .2) (omega arith)),
     ))
-    (λ w. rw (w .1) (omega arith, inv .1, inv .2, marks-past marks l i (inv .3) more (omega arith)))
+    (λ w. rw (w .1) (omega arith, inv .1, inv .2, marks-out marks l i (inv .3) more (omega arith)))
     (c .if1 .came)
 
 returns : tie.Need-returns Inv-loop μ-loop

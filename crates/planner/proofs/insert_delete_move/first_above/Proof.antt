@@ -1,4 +1,4 @@
--- `first_above` finds the first rule above a place behind those before it. The loop's invariant: from index k on as many stand before it as are left of those that stand
+-- `first_above` finds the first rule above a place behind those before it. The loop's invariant: from index `at` on as many stand before it as are left of those that stand
 -- before it from the start on; the measure is what is left of the list's length. Assumes nothing.
 use Prim.Native.Nat.{ℕ, _-_, _≤_, _<_}
 use native.Mathlib.Omega.{arith}
@@ -13,16 +13,12 @@ use Rattle.running.proofs.Edits.{view-count, view-fits}
 use Rattle.planner.proofs.Looking.{rule-shown, Seeking, seek-past, seek-here, seek-ends}
 use Rattle.planner.proofs.insert_delete_move.first_above.Statement.{statement}
 use Rattle.planner.proofs.insert_delete_move.first_above.Tie as tie
-use Rattle.planner.proofs.insert_delete_move.first_above.Reads as reads
-use Rattle.planner.proofs.insert_delete_move.first_above.Lts as lts
-use Rattle.running.proofs.Places.place.Reads as place-reads
-use Rattle.running.proofs.Running.count.Reads as count-reads
 
 abbrev Inv-loop : tie.InvT-loop
-Inv-loop from to place len rules k₀ k = (k ≤ len) × Seeking (λ x. ltb place (getD (to .of) x 0)) (take len rules) from k
+Inv-loop from to place len rules at₀ at = (at ≤ len) × Seeking (λ x. ltb place (getD (to .of) x 0)) (take len rules) from at
 
 abbrev μ-loop : tie.MeasureT-loop
-μ-loop from to place len rules k₀ k = len - k
+μ-loop from to place len rules at₀ at = len - at
 
 count-requires : tie.Need-count-requires Inv-loop μ-loop
 count-requires c κs = search needs
@@ -31,7 +27,7 @@ loop-holds : tie.Need-loop-holds Inv-loop μ-loop
 loop-holds c = (omega (arith, c .before .count .ensures), refl)
 
 -- an index of the list is a slot of its array
-below : (c : tie.In-loop Inv-loop μ-loop) → c .before .loop .k < 1024
+below : (c : tie.In-loop Inv-loop μ-loop) → c .before .loop .at < 1024
 below c =
     let counted = c .before .before .before in
     let start = counted .before in
@@ -45,12 +41,12 @@ below c =
 
 -- the invariant of the list that is shown
 sought : (c : tie.At-loop Inv-loop μ-loop)
-    → Seeking (λ x. ltb (c .before .before .before .args .place) (getD (c .before .before .before .args .to .of) x 0)) (view (c .before .before .before .args .list)) (c .before .before .before .args .from) (c .loop .k)
+    → Seeking (λ x. ltb (c .before .before .before .args .place) (getD (c .before .before .before .args .to .of) x 0)) (view (c .before .before .before .args .list)) (c .before .before .before .args .from) (c .loop .at)
 sought c =
     let counted = c .before .before in
     rw (view-count (counted .before .args .list) (counted .count .result) (counted .count .ensures)) at (c .loop .inv .1)
 
-shown : (c : tie.In-loop Inv-loop μ-loop) → c .before .loop .k < length (view (c .before .before .before .before .args .list))
+shown : (c : tie.In-loop Inv-loop μ-loop) → c .before .loop .at < length (view (c .before .before .before .before .args .list))
 shown c = omega (arith, c .loop-test .taken, c .before .before .before .count .ensures)
 
 mul-place : tie.Need-mul-place Inv-loop μ-loop
@@ -62,24 +58,24 @@ array-read-place c = below c
 place-requires : tie.Need-place-requires Inv-loop μ-loop
 place-requires c κs = search needs
 
--- the place that is looked up is that of the rule at index k of the list that is shown
+-- the place that is looked up is that of the rule at that index of the list that is shown
 looked-up : (c : tie.After-place Inv-loop μ-loop)
     → c .place .result
-    ≡ getD (c .before .before .before .before .before .args .to .of) (getD (view (c .before .before .before .before .before .args .list)) (c .before .before .loop .k) 0) 0
+    ≡ getD (c .before .before .before .before .before .args .to .of) (getD (view (c .before .before .before .before .before .args .list)) (c .before .before .loop .at) 0) 0
 looked-up c =
     let args = c .before .before .before .before .before .args in
-    c .place .ensures ∙ ap (λ (r : ℕ). getD (args .to .of) r 0) (rule-shown (args .list) (c .before .before .loop .k) (shown (c .before)))
+    c .place .ensures ∙ ap (λ (r : ℕ). getD (args .to .of) r 0) (rule-shown (args .list) (c .before .before .loop .at) (shown (c .before)))
 
 returns : tie.Need-returns Inv-loop μ-loop
 returns c =
     let turn = c .before .before in
     let at = turn .before in
     let args = at .before .before .before .args in
-    seek-here (λ x. ltb (args .place) (getD (args .to .of) x 0)) (view (args .list)) (args .from) (at .loop .k) (sought at) (shown turn)
+    seek-here (λ x. ltb (args .place) (getD (args .to .of) x 0)) (view (args .list)) (args .from) (at .loop .at) (sought at) (shown turn)
     (lt-ltb _ _ (rw (looked-up (c .before)) at (c .if1 .taken)))
 
-add-k : tie.Need-add-k Inv-loop μ-loop
-add-k c = record { fits = omega (arith, below (c .before .before)) }
+add-at : tie.Need-add-at Inv-loop μ-loop
+add-at c = record { fits = omega (arith, below (c .before .before)) }
 
 loop-less : tie.Need-loop-less Inv-loop μ-loop
 loop-less c = omega arith
@@ -92,7 +88,7 @@ loop-again c =
     let args = counted .before .args in (
       omega arith,
       rw (view-count (args .list) (counted .count .result) (counted .count .ensures))
-          (seek-past (λ x. ltb (args .place) (getD (args .to .of) x 0)) (view (args .list)) (args .from) (at .loop .k) (sought at) (shown turn)
+          (seek-past (λ x. ltb (args .place) (getD (args .to .of) x 0)) (view (args .list)) (args .from) (at .loop .at) (sought at) (shown turn)
           (le-ltb _ _ (rw (looked-up (c .before)) at (c .if1 .left)))),
     )
 
@@ -100,7 +96,7 @@ returns-2 : tie.Need-returns-2 Inv-loop μ-loop
 returns-2 c =
     let counted = c .before .before .before in
     let args = counted .before .args in
-    seek-ends (λ x. ltb (args .place) (getD (args .to .of) x 0)) (view (args .list)) (args .from) (c .before .loop .k) (sought (c .before))
+    seek-ends (λ x. ltb (args .place) (getD (args .to .of) x 0)) (view (args .list)) (args .from) (c .before .loop .at) (sought (c .before))
     (omega (arith, c .loop-test .left, counted .count .ensures))
 
 pub first-above-spec : {M : Type 1} → statement M
@@ -115,7 +111,7 @@ first-above-spec =
     array-read-place
     place-requires
     returns
-    add-k
+    add-at
     loop-less
     loop-again
     returns-2)

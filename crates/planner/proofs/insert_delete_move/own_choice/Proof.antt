@@ -2,11 +2,11 @@
 -- behind the last place kept, are the whole choice; no more are kept than are passed. Assumes nothing.
 use Prim.Native.Nat.{ℕ, _-_, _≤_, _<_}
 use native.Mathlib.Omega.{arith}
-use mathlib.Core.Path.{_≡_, refl, sym, _∙_, ap, ap₂}
+use mathlib.Core.Path.{_≡_, refl, _∙_, ap}
 use mathlib.Core.Logic.{⊎-elim}
 use mathlib.Core.List.{List}
 use borrow.Author.Needs.{needs}
-use lib.ListN.{length, take, getD, length-take, length-set, length-replicate}
+use lib.ListN.{length, take, getD, length-set}
 use Rattle.policy.specs.Properties.{Distinct}
 use Rattle.running.specs.Running.{view}
 use Rattle.running.specs.Places.{placeIn, Says}
@@ -18,21 +18,15 @@ use Rattle.planner.proofs.Looking.{rule-shown}
 use Rattle.planner.proofs.OwnChoice.{Chosen, choice-ends, choice-keeps, choice-passes}
 use Rattle.planner.proofs.insert_delete_move.own_choice.Statement.{statement}
 use Rattle.planner.proofs.insert_delete_move.own_choice.Tie as tie
-use Rattle.planner.proofs.insert_delete_move.own_choice.Reads as reads
-use Rattle.planner.proofs.insert_delete_move.own_choice.Lts as lts
-use Rattle.running.proofs.Places.none.Reads as none-reads
-use Rattle.running.proofs.Places.numbered.Reads as numbered-reads
-use Rattle.running.proofs.Places.place.Reads as place-reads
-use Rattle.running.proofs.Running.count.Reads as count-reads
 
 abbrev Inv-loop : tie.InvT-loop
-Inv-loop from len rules kept₀ count₀ last₀ j₀ kept count last j =
+Inv-loop from len rules kept₀ count₀ last₀ i₀ kept count last i =
     (length kept ≡ 1024)
-    × (count ≤ j)
-    × ((initial : List ℕ) → Says (from .of) initial → Distinct initial → Chosen initial (take len rules) kept count last j)
+    × (count ≤ i)
+    × ((initial : List ℕ) → Says (from .of) initial → Distinct initial → Chosen initial (take len rules) kept count last i)
 
 abbrev μ-loop : tie.MeasureT-loop
-μ-loop from len rules kept₀ count₀ last₀ j₀ kept count last j = len - j
+μ-loop from len rules kept₀ count₀ last₀ i₀ kept count last i = len - i
 
 none-requires : tie.Need-none-requires Inv-loop μ-loop
 none-requires c κs = search needs
@@ -47,7 +41,7 @@ loop-holds : tie.Need-loop-holds Inv-loop μ-loop
 loop-holds c = (refl, search needs, λ initial says d. refl)
 
 -- an index of the target is a slot of its array
-below : (c : tie.In-loop Inv-loop μ-loop) → c .before .loop .j < 1024
+below : (c : tie.In-loop Inv-loop μ-loop) → c .before .loop .i < 1024
 below c =
     let counted = c .before .before .before in
     let start = counted .before .before .before in
@@ -77,8 +71,8 @@ array-write-kept c = omega (arith, below (c .before .before), c .before .before 
 add-count : tie.Need-add-count Inv-loop μ-loop
 add-count c = record { fits = omega (arith, below (c .before .before), c .before .before .before .loop .inv .1) }
 
-add-j : tie.Need-add-j Inv-loop μ-loop
-add-j c = record { fits = omega (arith, below (c .before .before)) }
+add-i : tie.Need-add-i Inv-loop μ-loop
+add-i c = record { fits = omega (arith, below (c .before .before)) }
 
 loop-less : tie.Need-loop-less Inv-loop μ-loop
 loop-less c = omega arith
@@ -86,16 +80,16 @@ loop-less c = omega arith
 -- the place that is looked up for the next rule of the target is the rule's place in the initial policy
 looked-up : (c : tie.After-place Inv-loop μ-loop) (initial : List ℕ)
     → Says (c .before .before .before .before .before .numbered .result .of) initial
-    → c .place .result ≡ placeIn (getD (view (c .before .before .before .before .before .before .before .args .target)) (c .before .before .loop .j) 0) initial
+    → c .place .result ≡ placeIn (getD (view (c .before .before .before .before .before .before .before .args .target)) (c .before .before .loop .i) 0) initial
 looked-up c initial says =
     let counted = c .before .before .before .before in
     let start = counted .before .before .before in
     let target = start .args .target in
-    let j = c .before .before .loop .j in
-    let more : j < length (view target) = omega (arith, c .before .loop-test .taken, counted .count .ensures) in
+    let i = c .before .before .loop .i in
+    let more : i < length (view target) = omega (arith, c .before .loop-test .taken, counted .count .ensures) in
     c .place .ensures
-    ∙ ap (λ (r : ℕ). getD (counted .before .numbered .result .of) r 0) (rule-shown target j more)
-    ∙ says .1 (getD (view target) j 0) (start .pre .1 .inside (getD (view target) j 0) (place-in 0 (view target) j more))
+    ∙ ap (λ (r : ℕ). getD (counted .before .numbered .result .of) r 0) (rule-shown target i more)
+    ∙ says .1 (getD (view target) i 0) (start .pre .1 .inside (getD (view target) i 0) (place-in 0 (view target) i more))
 
 loop-again : tie.Need-loop-again Inv-loop μ-loop
 loop-again c =
@@ -105,13 +99,13 @@ loop-again c =
     let target = counted .before .before .before .args .target in
     let len = counted .count .result in
     let seen : take len (target .rules) ≡ view target = view-count target len (counted .count .ensures) in
-    let more : now .j < length (view target) = omega (arith, turn .loop-test .taken, counted .count .ensures) in
+    let more : now .i < length (view target) = omega (arith, turn .loop-test .taken, counted .count .ensures) in
     ⊎-elim
     (λ w. (
       ap length (w .1) ∙ length-set (now .kept) (now .count) _ ∙ now .inv .0,
       omega (arith, w .2),
-      λ initial says d. rw (w .1, w .2, w .3, seen, rule-shown target (now .j) more, looked-up (c .before) initial says)
-          (choice-keeps initial (view target) (now .kept) (now .count) (now .last) (now .j)
+      λ initial says d. rw (w .1, w .2, w .3, seen, rule-shown target (now .i) more, looked-up (c .before) initial says)
+          (choice-keeps initial (view target) (now .kept) (now .count) (now .last) (now .i)
           (rw seen at (now .inv .2 initial says d)) more d (omega (arith, below turn, now .inv .0, now .inv .1))
           (rw (looked-up (c .before) initial says) at (w .0 .taken))),
     ))
@@ -119,7 +113,7 @@ loop-again c =
       ap length (w .1) ∙ now .inv .0,
       omega (arith, w .2),
       λ initial says d. rw (w .1, w .2, w .3, seen)
-          (choice-passes initial (view target) (now .kept) (now .count) (now .last) (now .j)
+          (choice-passes initial (view target) (now .kept) (now .count) (now .last) (now .i)
           (rw seen at (now .inv .2 initial says d)) more d (rw (looked-up (c .before) initial says) at (w .0 .left))),
     ))
     (c .if1 .came)
@@ -136,7 +130,7 @@ returns c =
     let seen : take len (target .rules) ≡ view target = view-count target len (counted .count .ensures) in
     let says : Says (counted .before .numbered .result .of) initial =
     rw (counted .before .numbered .ensures, counted .before .before .none .ensures) (says-numbered initial (start .pre .0 .distinct)) in
-    choice-ends initial (view target) (now .kept) (now .count) (now .last) (now .j)
+    choice-ends initial (view target) (now .kept) (now .count) (now .last) (now .i)
     (rw seen at (now .inv .2 initial says (start .pre .0 .distinct))) (omega (arith, c .loop-test .left, counted .count .ensures))
 
 pub own-choice-spec : {M : Type 1} → statement M
@@ -155,7 +149,7 @@ own-choice-spec =
     mul-kept
     array-write-kept
     add-count
-    add-j
+    add-i
     loop-less
     loop-again
     returns)

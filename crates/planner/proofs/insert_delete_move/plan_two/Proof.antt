@@ -1,12 +1,10 @@
 -- `plan_two` writes the plan's script field: the rules kept are the keep list or the planner's own choice, and the two stages send the plan.
 -- Assumes nothing.
-use Prim.Native.Nat.{ℕ, _≤_}
 use native.Mathlib.Omega.{arith}
-use mathlib.Core.Path.{_≡_, refl, sym, _∙_, ap, ap₂}
+use mathlib.Core.Path.{_≡_, _∙_, ap, ap₂}
 use mathlib.Core.Logic.{⊎-elim}
-use mathlib.Core.List.{List}
 use borrow.Author.Needs.{needs}
-use lib.ListN.{length, take}
+use lib.ListN.{length}
 use lib.Seq.{take-all}
 use Rattle.policy.specs.InsertDeleteMove.{ownChoice, keptTwo}
 use Rattle.running.specs.Running.{view}
@@ -17,14 +15,6 @@ use Rattle.planner.proofs.Sending.{placed}
 use Rattle.planner.proofs.PlanTwo.{kept-given, kept-chosen, kept-accepted, second-fits, both-sent}
 use Rattle.planner.proofs.insert_delete_move.plan_two.Statement.{statement}
 use Rattle.planner.proofs.insert_delete_move.plan_two.Tie as tie
-use Rattle.planner.proofs.insert_delete_move.plan_two.Reads as reads
-use Rattle.planner.proofs.insert_delete_move.plan_two.Lts as lts
-use Rattle.planner.proofs.insert_delete_move.own_choice.Reads as own-choice-reads
-use Rattle.planner.proofs.insert_delete_move.stage_one.Reads as stage-one-reads
-use Rattle.planner.proofs.insert_delete_move.stage_two.Reads as stage-two-reads
-use Rattle.planner.proofs.script.close.Reads as close-reads
-use Rattle.reader.proofs.values.list_of.Reads as list-of-reads
-use Rattle.running.proofs.Running.count.Reads as count-reads
 
 list-of-requires : tie.Need-list-of-requires
 list-of-requires c κs = search needs

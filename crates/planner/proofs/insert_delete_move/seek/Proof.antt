@@ -13,9 +13,6 @@ use Rattle.running.proofs.Edits.{view-count, view-fits}
 use Rattle.planner.proofs.Looking.{rule-shown, Seeking, seek-past, seek-here, seek-ends}
 use Rattle.planner.proofs.insert_delete_move.seek.Statement.{statement}
 use Rattle.planner.proofs.insert_delete_move.seek.Tie as tie
-use Rattle.planner.proofs.insert_delete_move.seek.Reads as reads
-use Rattle.planner.proofs.insert_delete_move.seek.Lts as lts
-use Rattle.running.proofs.Running.count.Reads as count-reads
 
 abbrev Inv-loop : tie.InvT-loop
 Inv-loop from r len rules k₀ k = (k ≤ len) × Seeking (λ x. eqb x r) (take len rules) from k

@@ -14,13 +14,6 @@ use Rattle.planner.proofs.Edits.{del-gives, mov-gives}
 use Rattle.planner.proofs.SecondStage.{did-delete, did-lower}
 use Rattle.planner.proofs.insert_delete_move.settle.Statement.{statement}
 use Rattle.planner.proofs.insert_delete_move.settle.Tie as tie
-use Rattle.planner.proofs.insert_delete_move.settle.Reads as reads
-use Rattle.planner.proofs.insert_delete_move.settle.Lts as lts
-use Rattle.planner.proofs.insert_delete_move.first_above.Reads as first-above-reads
-use Rattle.planner.proofs.script.put.Reads as put-reads
-use Rattle.running.proofs.Places.place.Reads as place-reads
-use Rattle.running.proofs.Running.del_place.Reads as del-place-reads
-use Rattle.running.proofs.Running.mov.Reads as mov-reads
 
 place-requires : tie.Need-place-requires
 place-requires c κs = search needs

@@ -1,20 +1,18 @@
 -- `stage_one` does what the definition does in the first stage. The loop's invariant is `Turn`: the list stands for two halves from which the
 -- rest of the target leads to the same end, and the commands so far are sent. The measure is what is left of the target. Assumes nothing.
-use Prim.Native.Nat.{ℕ, _-_, _≤_, _<_}
+use Prim.Native.Nat.{ℕ, _-_, _<_}
 use native.Mathlib.Omega.{arith}
-use mathlib.Core.Path.{_≡_, refl, sym, _∙_, ap}
+use mathlib.Core.Path.{_≡_, refl, sym, _∙_}
 use mathlib.Core.List.{List}
 use borrow.Author.Needs.{needs}
 use lib.ListN.{length, take, getD}
 use lib.Seq.{getD-take}
-use Rattle.policy.specs.Properties.{Distinct}
 use Rattle.policy.proofs.Lists.{place-in}
 use Rattle.policy.proofs.Order.{sublist-distinct}
 use Rattle.policy.proofs.StageOne.{Given}
 use Rattle.running.specs.Running.{view}
 use Rattle.running.specs.Places.{Says}
-use Rattle.running.proofs.Slots.{field-length}
-use Rattle.running.proofs.Edits.{view-count, view-fits}
+use Rattle.running.proofs.Edits.{view-count}
 use Rattle.running.proofs.Says.{says-numbered}
 use Rattle.planner.proofs.Looking.{rule-shown}
 use Rattle.planner.proofs.Places.{place-tells}
@@ -22,13 +20,6 @@ use Rattle.planner.proofs.Marks.{marks-none}
 use Rattle.planner.proofs.FirstStage.{Turn, turn-first, turn-length, turn-more, turn-last}
 use Rattle.planner.proofs.insert_delete_move.stage_one.Statement.{statement}
 use Rattle.planner.proofs.insert_delete_move.stage_one.Tie as tie
-use Rattle.planner.proofs.insert_delete_move.stage_one.Reads as reads
-use Rattle.planner.proofs.insert_delete_move.stage_one.Lts as lts
-use Rattle.planner.proofs.insert_delete_move.take_one.Reads as take-one-reads
-use Rattle.running.proofs.Places.none.Reads as none-reads
-use Rattle.running.proofs.Places.numbered.Reads as numbered-reads
-use Rattle.running.proofs.Places.place.Reads as place-reads
-use Rattle.running.proofs.Running.count.Reads as count-reads
 
 abbrev Inv-loop : tie.InvT-loop
 Inv-loop field₀ from keeps len rules stage₀ j₀ field stage j =
@@ -56,7 +47,7 @@ count-requires c κs = search needs
 loop-holds : tie.Need-loop-holds Inv-loop μ-loop
 loop-holds c =
     let start = c .before .before .before .before .before .before .before in
-    λ initial kept is says keeps given. turn-first initial _ kept given _ (start .args .initial) _ is marks-none (start .pre .3)
+    λ initial kept is says keeps given. turn-first initial _ kept given _ (start .args .initial) _ is refl marks-none (start .pre .3)
 
 -- the two policies and the rules to keep
 given : (c : tie.After-count Inv-loop μ-loop)

@@ -1,20 +1,20 @@
 -- `stage_two` does what the definition does in the second stage. The loop's invariant is `Pass`: the list is what is left of the front and the
--- settled rules behind it, from which the rest of the stage is done, and the commands so far are sent. The measure is the place. Assumes nothing.
+-- settled rules behind it, from which the rest of the stage is done, and the commands so far are sent. The measure is what is left of the front. Assumes nothing.
 use Prim.Native.Nat.{ℕ, suc, _-_, _≤_, _<_}
 use native.Mathlib.Omega.{arith}
-use mathlib.Core.Path.{_≡_, refl, sym, _∙_, ap}
+use mathlib.Core.Path.{_≡_, refl, sym, _∙_}
 use mathlib.Core.Bool.{Bool, false}
 use mathlib.Core.Logic.{⊎-elim}
 use mathlib.Core.List.{List}
 use borrow.Author.Needs.{needs}
 use borrow.Author.Tests.{not-true, not-false}
-use lib.ListN.{length, take, getD}
+use lib.ListN.{length, getD}
 use Rattle.policy.specs.Claims.{Policy}
 use Rattle.policy.proofs.Lists.{place-in}
 use Rattle.running.specs.Running.{view}
 use Rattle.running.specs.Places.{Says}
 use Rattle.running.proofs.Slots.{field-length}
-use Rattle.running.proofs.Edits.{view-count, view-fits}
+use Rattle.running.proofs.Edits.{view-fits}
 use Rattle.running.proofs.Says.{says-numbered}
 use Rattle.planner.specs.declared.insert_delete_move.Stage.{Stage}
 use Rattle.planner.specs.InsertDeleteMove.{frontOf}
@@ -22,19 +22,13 @@ use Rattle.planner.proofs.Looking.{rule-shown}
 use Rattle.planner.proofs.SecondStage.{Pass, pass-at, pass-first, pass-fits, pass-rule, pass-settled, pass-room, pass-waiting, pass-last}
 use Rattle.planner.proofs.insert_delete_move.stage_two.Statement.{statement}
 use Rattle.planner.proofs.insert_delete_move.stage_two.Tie as tie
-use Rattle.planner.proofs.insert_delete_move.stage_two.Reads as reads
-use Rattle.planner.proofs.insert_delete_move.stage_two.Lts as lts
-use Rattle.planner.proofs.insert_delete_move.settle.Reads as settle-reads
-use Rattle.running.proofs.Places.none.Reads as none-reads
-use Rattle.running.proofs.Places.numbered.Reads as numbered-reads
-use Rattle.running.proofs.Running.count.Reads as count-reads
 
 abbrev Inv-loop : tie.InvT-loop
-Inv-loop field₀ to settled list₀ sent₀ i₀ field list sent i =
-    (target : List ℕ) → Policy 1024 target → Says (to .of) target → Pass target settled (view list₀) field₀ sent₀ list sent field i
+Inv-loop field₀ to settled list₀ sent₀ len k₀ field list sent k =
+    (target : List ℕ) → Policy 1024 target → Says (to .of) target → Pass target settled (view list₀) field₀ sent₀ list sent field (len - k)
 
 abbrev μ-loop : tie.MeasureT-loop
-μ-loop field₀ to settled list₀ sent₀ i₀ field list sent i = i
+μ-loop field₀ to settled list₀ sent₀ len k₀ field list sent k = len - k
 
 none-requires : tie.Need-none-requires Inv-loop μ-loop
 none-requires c κs = search needs
@@ -49,11 +43,8 @@ loop-holds : tie.Need-loop-holds Inv-loop μ-loop
 loop-holds c =
     let start = c .before .before .before .before .before .before in
     let stage = start .args .stage in
-    λ target policy says. rw (c .count .ensures)
+    λ target policy says. pass-at (omega (arith, c .count .ensures))
     (pass-first target (stage .settled) (view (stage .list)) _ (stage .sent) (stage .list) refl (start .pre .3) (omega (arith, start .pre .2)))
-
-sub-r : tie.Need-sub-r Inv-loop μ-loop
-sub-r c = search needs
 
 -- the side array is right for the target
 says-target : (c : tie.After-numbered Inv-loop μ-loop) → Says (c .numbered .result .of) (view (c .before .before .before .args .target))
@@ -68,42 +59,59 @@ module _ (c : tie.At-loop Inv-loop μ-loop) where
   abbrev stage : Stage
   stage = start .args .stage
 
+  abbrev len : ℕ
+  len = c .before .count .result
+
   -- the invariant, of the target that is planned for
   pass : Pass (view (start .args .target)) (stage .settled) (view (stage .list)) (start .args .field .now) (stage .sent) (c .loop .list) (c .loop .sent)
-      (c .loop .field) (c .loop .i)
+      (c .loop .field) (len - c .loop .k)
   pass = c .loop .inv (view (start .args .target)) (start .pre .0) (says-target (c .before .before .before .before))
 
-  -- a place of the list is a slot of the array
-  below : c .loop .i ≤ 1024
+  -- the list has no more rules than slots
+  below : len ≤ 1024
   below =
-      omega (arith, pass .inside, view-fits (stage .list), field-length 1024 (stage .list .rules) (start .good .0 .1 .1 .0 .1 .1 .0 .1 .0 .1))
+      omega (
+        arith,
+        c .before .count .ensures,
+        view-fits (stage .list),
+        field-length 1024 (stage .list .rules) (start .good .0 .1 .1 .0 .1 .1 .0 .1 .0 .1),
+      )
 
-  module _ (more : 0 < c .loop .i) where
-    -- the invariant, once the place is one behind another
+  module _ (more : c .loop .k < len) where
+    abbrev at : ℕ
+    at = len - 1 - c .loop .k
+
+    -- the last rule that is left of the front stands at that index
     again : {target : List ℕ}
-        → Pass target (stage .settled) (view (stage .list)) (start .args .field .now) (stage .sent) (c .loop .list) (c .loop .sent) (c .loop .field) (c .loop .i)
-        → Pass target (stage .settled) (view (stage .list)) (start .args .field .now) (stage .sent) (c .loop .list) (c .loop .sent) (c .loop .field) (suc (c .loop .i - 1))
+        → Pass target (stage .settled) (view (stage .list)) (start .args .field .now) (stage .sent) (c .loop .list) (c .loop .sent) (c .loop .field) (len - c .loop .k)
+        → Pass target (stage .settled) (view (stage .list)) (start .args .field .now) (stage .sent) (c .loop .list) (c .loop .sent) (c .loop .field) (suc at)
     again p = pass-at (omega arith) p
 
-    -- the rule there is the one that stood there at the start of the stage
-    next : getD (c .loop .list .rules) (c .loop .i - 1) 0 ≡ getD (view (stage .list)) (c .loop .i - 1) 0
-    next =
-        rule-shown (c .loop .list) (c .loop .i - 1) (omega (arith, pass-fits _ _ _ _ _ _ _ _ _ pass))
-        ∙ pass-rule _ _ _ _ _ _ _ _ _ (again pass)
+    inside : suc at ≤ length (view (c .loop .list))
+    inside = pass-fits _ _ _ _ _ _ _ _ _ (again pass)
 
-    small : getD (c .loop .list .rules) (c .loop .i - 1) 0 < 1024
+    -- it is the one that stood there at the start of the stage
+    next : getD (c .loop .list .rules) at 0 ≡ getD (view (stage .list)) at 0
+    next = rule-shown (c .loop .list) at inside ∙ pass-rule _ _ _ _ _ _ _ _ _ (again pass)
+
+    small : getD (c .loop .list .rules) at 0 < 1024
     small =
         let first = view (stage .list) in
-        rw next (start .pre .1 (getD first (c .loop .i - 1) 0) (place-in 0 first (c .loop .i - 1) (omega (arith, pass .inside))))
+        rw next (start .pre .1 (getD first at 0) (place-in 0 first at (again pass .inside)))
 
-    mark : {b : Bool} → getD (stage .settled) (getD (c .loop .list .rules) (c .loop .i - 1) 0) false ≡ b
-        → getD (stage .settled) (getD (view (stage .list)) (c .loop .i - 1) 0) false ≡ b
+    mark : {b : Bool} → getD (stage .settled) (getD (c .loop .list .rules) at 0) false ≡ b → getD (stage .settled) (getD (view (stage .list)) at 0) false ≡ b
     mark e = rw next at e
 
     -- a waiting rule: there is room for its command
-    room : getD (stage .settled) (getD (c .loop .list .rules) (c .loop .i - 1) 0) false ≡ false → c .loop .sent < 1024
+    room : getD (stage .settled) (getD (c .loop .list .rules) at 0) false ≡ false → c .loop .sent < 1024
     unfolding frontOf
     room unmarked = pass-room _ _ _ _ _ _ _ _ _ (again pass) (mark unmarked) (start .pre .2)
+
+sub-at : tie.Need-sub-at Inv-loop μ-loop
+sub-at c = omega (arith, c .loop-test .taken)
+
+sub-at-2 : tie.Need-sub-at-2 Inv-loop μ-loop
+sub-at-2 c = omega (arith, c .loop-test .taken)
 
 mul-r : tie.Need-mul-r Inv-loop μ-loop
 mul-r c = record { fits = omega (arith, below (c .before .before)) }
@@ -117,12 +125,20 @@ cast-if1 c = record { fits = omega (arith, small (c .before .before) (c .before 
 array-read-if1 : tie.Need-array-read-if1 Inv-loop μ-loop
 array-read-if1 c = small (c .before .before) (c .before .loop-test .taken)
 
+add-settle : tie.Need-add-settle Inv-loop μ-loop
+add-settle c = record { fits = omega (arith, below (c .before .before .before)) }
+
 settle-requires : tie.Need-settle-requires Inv-loop μ-loop
 settle-requires c κs =
     let turn = c .before .before .before in
-    let at = turn .before in
-    let more = turn .loop-test .taken in
-    (more, pass-fits _ _ _ _ _ _ _ _ _ (pass at), small at more, room at more (not-true _ (c .before .if1 .taken)), pass at .sends .long)
+    let now = turn .before in
+    let more = turn .loop-test .taken in (
+      omega arith,
+      omega (arith, inside now more),
+      small now more,
+      room now more (not-true _ (c .before .if1 .taken)),
+      pass now .sends .long,
+    )
 
 add-sent : tie.Need-add-sent Inv-loop μ-loop
 add-sent c =
@@ -130,8 +146,8 @@ add-sent c =
     let turn = then1 .before .before in
     record { fits = omega (arith, room (turn .before) (turn .loop-test .taken) (not-true _ (then1 .if1 .taken))) }
 
-sub-i : tie.Need-sub-i Inv-loop μ-loop
-sub-i c = c .before .before .loop-test .taken
+add-k : tie.Need-add-k Inv-loop μ-loop
+add-k c = record { fits = omega (arith, below (c .before .before .before), c .before .before .loop-test .taken) }
 
 loop-less : tie.Need-loop-less Inv-loop μ-loop
 loop-less c = omega (arith, c .before .before .loop-test .taken)
@@ -139,15 +155,17 @@ loop-less c = omega (arith, c .before .before .loop-test .taken)
 loop-again : tie.Need-loop-again Inv-loop μ-loop
 loop-again c =
     let turn = c .before .before in
-    let at = turn .before in
+    let now = turn .before in
     let more = turn .loop-test .taken in
     λ target policy says.
-    let p = again at more (at .loop .inv target policy says) in
-    ⊎-elim
+    let p = again now more (now .loop .inv target policy says) in
+    pass-at {i = at now more} (omega arith)
+    (⊎-elim
     (λ w. rw (w .5, w .6, w .7)
-    (pass-waiting _ _ _ _ _ _ _ _ _ p (mark at more (not-true _ (w .0 .taken))) (at .before .before .before .before .numbered .result) (at .loop .i) _ _ _ policy says (omega arith) (next at more) (w .2 .ensures)))
-    (λ w. rw (w .1, w .2, w .3) (pass-settled _ _ _ _ _ _ _ _ _ p (mark at more (not-false _ (w .0 .left)))))
-    (c .if1 .came)
+    (pass-waiting _ _ _ _ _ _ _ _ _ p (mark now more (not-true _ (w .0 .taken))) (now .before .before .before .before .numbered .result) _ _ _ _ policy says
+    (omega arith) (next now more) (w .2 .ensures)))
+    (λ w. rw (w .1, w .2, w .3) (pass-settled _ _ _ _ _ _ _ _ _ p (mark now more (not-false _ (w .0 .left)))))
+    (c .if1 .came))
 
 same-length : tie.Need-same-length Inv-loop μ-loop
 same-length c = pass (c .before) .sends .long ∙ sym (c .before .before .before .before .before .before .before .before .pre .3)
@@ -157,7 +175,7 @@ unfolding frontOf
 returns c =
     let start = c .before .before .before .before .before .before .before .before in
     let stage = start .args .stage in
-    let end : c .before .loop .i ≡ 0 = omega (arith, c .loop-test .left) in
+    let end : len (c .before) - c .before .loop .k ≡ 0 = omega (arith, c .loop-test .left) in
     pass-last (view (start .args .target)) (stage .settled) (view (stage .list)) _ (stage .sent) _ _ _ (pass-at end (pass (c .before)))
 
 pub stage-two-spec : {M : Type 1} → statement M
@@ -170,14 +188,16 @@ stage-two-spec =
     numbered-requires
     count-requires
     loop-holds
-    sub-r
+    sub-at
+    sub-at-2
     mul-r
     array-read-r
     cast-if1
     array-read-if1
+    add-settle
     settle-requires
     add-sent
-    sub-i
+    add-k
     loop-less
     loop-again
     same-length

@@ -13,14 +13,6 @@ use Rattle.planner.proofs.Edits.{ins-gives, mov-gives}
 use Rattle.planner.proofs.StageOne.{did-insert, did-reach, did-pass, did-stay, did-move}
 use Rattle.planner.proofs.insert_delete_move.take_one.Statement.{statement}
 use Rattle.planner.proofs.insert_delete_move.take_one.Tie as tie
-use Rattle.planner.proofs.insert_delete_move.take_one.Reads as reads
-use Rattle.planner.proofs.insert_delete_move.take_one.Lts as lts
-use Rattle.planner.proofs.insert_delete_move.Stage.joined.Reads as joined-reads
-use Rattle.planner.proofs.insert_delete_move.seek.Reads as seek-reads
-use Rattle.planner.proofs.script.put.Reads as put-reads
-use Rattle.running.proofs.Running.count.Reads as count-reads
-use Rattle.running.proofs.Running.ins.Reads as ins-reads
-use Rattle.running.proofs.Running.mov.Reads as mov-reads
 
 add-next : tie.Need-add-next
 add-next c = search needs

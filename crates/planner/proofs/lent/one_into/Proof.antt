@@ -1,0 +1,37 @@
+-- `one_into` meets its contract: the plan is made in a place of its own, and its field is sent. Assumes nothing.
+use mathlib.Core.Path.{_∙_}
+use borrow.Author.Needs.{needs}
+use Rattle.planner.proofs.LentPlace.{plan-inside, plan-sent}
+use Rattle.planner.proofs.lent.one_into.Statement.{statement}
+use Rattle.planner.proofs.lent.one_into.Tie as tie
+
+slice-aggregate-plan-one : tie.Need-slice-aggregate-plan-one
+slice-aggregate-plan-one c = search needs
+
+plan-one-requires : tie.Need-plan-one-requires
+plan-one-requires c κs = search needs
+
+slice-aggregate-send : tie.Need-slice-aggregate-send
+slice-aggregate-send c = search needs
+
+send-requires : tie.Need-send-requires
+send-requires c κs = plan-inside (c .before .before .before .plan-one .ensures)
+
+same-length : tie.Need-same-length
+same-length c = search needs
+
+returns : tie.Need-returns
+returns c =
+    let plan = c .before .before .before .before .before .before .plan-one in
+    c .before .before .send .ensures ∙ plan-sent (plan .ensures) _
+
+pub one-into-spec : {M : Type 1} → statement M
+one-into-spec =
+    tie.close
+    (tie.spec
+    slice-aggregate-plan-one
+    plan-one-requires
+    slice-aggregate-send
+    send-requires
+    same-length
+    returns)
