@@ -1,3 +1,4 @@
 pub mod Support
 pub mod Search
 pub mod Verdicts
+pub mod ValuesRead

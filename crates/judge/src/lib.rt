@@ -1,17 +1,21 @@
 // The judge of scripts: replay from the initial policy, and the ordering rule on every list of the way.
 
 ghost use mathlib.Core.Path.{_≡_};
-ghost use mathlib.Core.Bool.{false, cond, _||_};
+ghost use mathlib.Core.Bool.{true, false, cond, _||_};
 ghost use mathlib.Core.Option.{some};
 ghost use Prim.Native.Nat.{_+_, _≤_};
 ghost use lib.ListN.{getD};
 ghost use Rattle.policy.specs.Judge.{ordered, full, firstUnsupported, verdict};
 ghost use Rattle.deployment.specs.Values.{numbersOf, scriptOf};
+ghost use Rattle.deployment.specs.File.{readToJudge};
+ghost use Rattle.deployment.specs.FieldValues.{readValues};
 ghost use Rattle.policy.specs.Claims.{Policy};
 ghost use Rattle.policy.specs.Lists.{same};
 ghost use Rattle.policy.specs.Policy.{most-rules};
 ghost use Rattle.running.specs.Running.{view};
+ghost use Rattle.reader.specs.Answers.{valuesGiven};
 ghost use Rattle.replay.specs.Answers.{commandsOf, Readable};
+ghost use Rattle.judge.specs.Answers.{judgedReading};
 ghost use Rattle.judge.specs.SoFar.{noted};
 ghost use Rattle.judge.specs.Fronts.{stands, front, passesAt, isAt, Judging};
 use deployment::Decoded;
@@ -21,6 +25,12 @@ use deployment::commands;
 use deployment::listed;
 use deployment::number_at;
 use policy::Verdict;
+use reader::Checking;
+use reader::FileRead;
+use reader::file::read_to_judge;
+use reader::file::value;
+use reader::lists::values_checked;
+use reader::values::RULE_BYTES;
 use reader::values::list_of;
 use replay::Replaying;
 use running::Refusing;
@@ -250,4 +260,43 @@ fn verdict_of(size: usize, initial: &[u8], target: &[u8], script: &[u8]) -> Verd
         return Verdict::Elsewhere(count);
     }
     found
+}
+
+// Judges the script of a deployment file.
+pub fn judge_file(file: &[u8]) -> Judged
+    ensures { λ r. ⌜ r ≡ judgedReading (readToJudge (now (file .entry))) ⌝ }
+{
+    let found = read_to_judge(file);
+    match found {
+        FileRead::Refused(refusal) => Judged::Turned(refusal),
+        FileRead::Accepted(layout) => {
+            let initial = value(file, layout.initial);
+            let target = value(file, layout.target);
+            let script = value(file, layout.script);
+            Judged::Said(verdict_of(layout.rules, initial, target, script))
+        }
+    }
+}
+
+// Judges a script of field values; the keep list is there if `has_keep` says so.
+pub fn judge_values(
+    rules: &[u8],
+    initial: &[u8],
+    target: &[u8],
+    has_keep: bool,
+    keep: &[u8],
+    script: &[u8],
+) -> Judged
+    ensures { λ r.
+        ⌜ r ≡ judgedReading (readValues (valuesGiven (now (rules .entry)) (now (initial .entry)) (now (target .entry))
+        «has_keep» (now (keep .entry)) true (now (script .entry)))) ⌝ }
+{
+    let c = values_checked(rules, initial, target, has_keep, keep, true, script);
+    match c {
+        Checking::Bad(why) => Judged::Turned(Refusal { why, at: 0 }),
+        Checking::Good => {
+            let size = rules.len() / RULE_BYTES;
+            Judged::Said(verdict_of(size, initial, target, script))
+        }
+    }
 }

@@ -1,4 +1,4 @@
--- Any two answers of `read`, and of `value`, are equal; and what an answer of `read` says of the file. The idea: contents that were
+-- Any two answers of `read`, of `read_to_judge` and of `value` are equal; and what an answer of `read` says of the file. The idea: contents that were
 -- written are fields that were read to the end, so the laws of places hold of them. Assumes nothing.
 use Prim.Native.Nat.{ℕ, _*_, _<_}
 use native.Mathlib.Omega.{arith}
@@ -37,11 +37,15 @@ use Rattle.reader.proofs.Places.{
   catalogue-first,
 }
 use Rattle.reader.proofs.file.read.Reads as read
+use Rattle.reader.proofs.file.read_to_judge.Reads as read-to-judge
 use Rattle.reader.proofs.file.value.Reads as value
 
 -- One answer.
 pub one-reading : (κ : _) (a : _) (r s : FileRead) (e f : _) → read.Post κ a r e → read.Post κ a s f → r ≡ s
 one-reading κ a r s e f p q = p ∙ sym q
+
+pub one-reading-to-judge : (κ : _) (a : _) (r s : FileRead) (e f : _) → read-to-judge.Post κ a r e → read-to-judge.Post κ a s f → r ≡ s
+one-reading-to-judge κ a r s e f p q = p ∙ sym q
 
 pub one-value : (κ : _) (a : _) (r s : _) (e f : _) → value.Post κ a r e → value.Post κ a s f → now r ≡ now s
 one-value κ a r s e f p q = p ∙ sym q

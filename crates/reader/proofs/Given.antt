@@ -27,12 +27,19 @@ use Rattle.deployment.specs.FieldValues.{
   scriptValue,
   valuesRead,
 }
+use Rattle.deployment.specs.Properties.{AreBytes, IfThere}
 use Rattle.deployment.specs.declared.Why.{Why}
 use Rattle.deployment.proofs.Bytes.{length-chunks}
 use Rattle.deployment.proofs.Tests.{tested, policy-tested}
-use Rattle.reader.specs.Answers.{checking}
+use Rattle.reader.specs.Answers.{checking, given}
 use Rattle.reader.specs.declared.Checking.{Checking}
 use Rattle.reader.specs.declared.Checking.the-variants.{Good, Bad}
+
+-- Bytes that may be absent.
+pub given-bytes : (there : Bool) (value : List ℕ) → AreBytes value → IfThere AreBytes (given there value)
+unfolding given
+given-bytes true value b = b
+given-bytes false value b = tt
 
 -- What an answer says of the tests.
 bad-good {ℓ} : {A : Type 0} {B : Type ℓ} {why : Why} {a : A} → bad why ≡ good a → B

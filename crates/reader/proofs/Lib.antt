@@ -9,5 +9,6 @@ pub mod Heads
 pub mod Checks
 pub mod OneMore
 pub mod Reading
+pub mod ToJudge
 pub mod Answers
 pub mod FileAnswers

@@ -9,7 +9,7 @@ ghost use lib.Dec.{eqb, leb};
 ghost use Rattle.policy.specs.Lists.{mem};
 ghost use Rattle.policy.specs.Policy.{most-rules};
 ghost use Rattle.deployment.specs.Checked.{good};
-ghost use Rattle.deployment.specs.File.{Fields, rule-tag, fieldRead, lengthFits, withField, atEnd};
+ghost use Rattle.deployment.specs.File.{Fields, rule-tag, fieldRead, lengthFits, withField, atEnd, readToJudge};
 ghost use Rattle.deployment.specs.Properties.{Readable, fieldsBytes};
 ghost use Rattle.reader.specs.Answers.{valueAt, spanFrom, checking, shown, fileRead};
 ghost use Rattle.reader.specs.Steps.{tagsAfter, More, Begun, layoutSoFar, progressOf, headShown, stepFrom};
@@ -260,4 +260,23 @@ pub fn read(file: &[u8]) -> FileRead
         }
     }
     ended(progress)
+}
+
+// 12: "judge called, no script in the file", at the file's length; the rest as read.
+pub fn read_to_judge(file: &[u8]) -> FileRead
+    ensures { λ r. ⌜ r ≡ shown (readToJudge (now (file .entry))) ⌝ }
+{
+    let found = read(file);
+    match found {
+        FileRead::Refused(refusal) => FileRead::Refused(refusal),
+        FileRead::Accepted(layout) => {
+            if !layout.has_script {
+                return FileRead::Refused(Refusal {
+                    why: Why::NoScript,
+                    at: file.len(),
+                });
+            }
+            FileRead::Accepted(layout)
+        }
+    }
 }

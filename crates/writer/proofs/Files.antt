@@ -25,7 +25,7 @@ use Rattle.deployment.specs.File.{
   fileOf,
 }
 use Rattle.deployment.specs.FieldValues.{FieldValues, leftBy, Stored, unwritten, writing, valuesRead, atZero, readValues}
-use Rattle.deployment.specs.Properties.{AreBytes, IfThere}
+use Rattle.deployment.specs.Properties.{AreBytes}
 use Rattle.deployment.specs.Claims.{valuesOf, AreValues}
 use Rattle.deployment.specs.declared.Why.{Why}
 use Rattle.deployment.specs.declared.Why.the-variants.{Room}
@@ -37,7 +37,7 @@ use Rattle.deployment.proofs.Storing.{stored-fills}
 use Rattle.deployment.proofs.ReadBack.{length-field, valid-fits}
 use Rattle.reader.specs.Answers.{checking, given, valuesGiven}
 use Rattle.reader.specs.declared.Checking.the-variants.{Good, Bad}
-use Rattle.reader.proofs.Given.{passed, failed}
+use Rattle.reader.proofs.Given.{given-bytes, passed, failed}
 use Rattle.writer.specs.Answers.{writtenValues, rulesBytes, fieldIf, needed}
 use Rattle.writer.proofs.Pieces.{length-if, length-all-rules}
 
@@ -63,12 +63,6 @@ there-file tag written none false value e = refl
 there-file tag written none true value e = none-some e
 there-file tag written (some a) false value e = none-some (sym e)
 there-file tag written (some a) true value e = let same : written a ≡ value = cc in rw same
-
--- Bytes that may be absent.
-given-bytes : (there : Bool) (value : List ℕ) → AreBytes value → IfThere AreBytes (given there value)
-unfolding given
-given-bytes true value b = b
-given-bytes false value b = tt
 
 -- what a caller lends to be written
 pub record Lent : Type 0 where
