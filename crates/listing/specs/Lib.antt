@@ -1,2 +1,3 @@
--- The text of document 01's two programs.
+-- The text of document 01's two programs, and what its printers need.
 pub mod Text
+pub mod Printing

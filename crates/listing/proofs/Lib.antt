@@ -1,0 +1,3 @@
+-- Laws of the listing's texts.
+pub mod Digits
+pub mod Pieces
