@@ -176,15 +176,15 @@ unfolding fieldBytes bytesOf
 length-field tag value = omega arith
 
 module _ (tag : ℕ) (value left : List ℕ) where
-  tag-read : tag < 256 → number (part 0 1 (fieldBytes tag value ++ left)) ≡ tag
+  pub tag-read : tag < 256 → number (part 0 1 (fieldBytes tag value ++ left)) ≡ tag
   unfolding fieldBytes bytesOf part
   tag-read h = number-bytes 1 tag h
 
-  size-read : length value < 65536 → number (part 1 2 (fieldBytes tag value ++ left)) ≡ length value
+  pub size-read : length value < 65536 → number (part 1 2 (fieldBytes tag value ++ left)) ≡ length value
   unfolding fieldBytes bytesOf part
   size-read h = number-bytes 2 (length value) h
 
-  value-read : part 3 (length value) (fieldBytes tag value ++ left) ≡ value
+  pub value-read : part 3 (length value) (fieldBytes tag value ++ left) ≡ value
   unfolding fieldBytes bytesOf part
   value-read = take-at value left (length value) refl
 

@@ -12,3 +12,5 @@ pub mod StageOne
 pub mod FirstStage
 pub mod SecondStage
 pub mod PlanTwo
+pub mod Claims
+pub mod Answers

@@ -4,3 +4,4 @@ pub mod Marks
 pub mod AppendDelete
 pub mod InsertDeleteMove
 pub mod Plans
+pub mod Claims

@@ -1,0 +1,215 @@
+-- The claims of the planners. The idea: a script that leads from a policy names rules of the catalogue and places of lists that are no longer
+-- than the catalogue, so all its numbers have two bytes and its field reads back. Assumes nothing.
+use Prim.Native.Nat.{ℕ, suc, _+_, _*_, _≤_, _<_}
+use native.Mathlib.Omega.{arith}
+use mathlib.Core.Path.{_≡_, refl, sym, _∙_, ap}
+use mathlib.Core.Logic.{inl, inr, _⊎_, ⊎-elim}
+use mathlib.Core.Bool.{true, cond}
+use mathlib.Core.List.{List, [], _∷_, _++_, List·Memᴰ, List·Memᴰ·cases-cons, List·Memᴰ·not-nil}
+use mathlib.Core.Option.{Option, some}
+use borrow.Author.Tests.{eqb-true, le-leb, lt-leb, leb-true, leb-false}
+use lib.Dec.{eqb, leb}
+use lib.ListN.{length, drop, length-append}
+use lib.Seq.{drop-at}
+use Rattle.policy.specs.Policy.{most-rules}
+use Rattle.policy.specs.Command.{coded, commandType, ofType}
+use Rattle.policy.specs.AppendDelete.{planOne}
+use Rattle.policy.specs.InsertDeleteMove.{planTwo}
+use Rattle.policy.specs.Properties.{Makes, Leads}
+use Rattle.policy.specs.Claims.{Policy, Accepted}
+use Rattle.policy.specs.declared.Command.{Command}
+use Rattle.policy.specs.declared.Command.the-variants.{App, DelRule, Ins, DelPlace, Mov}
+use Rattle.policy.proofs.Tests.{byTest}
+use Rattle.policy.proofs.Lists.{all-in}
+use Rattle.policy.proofs.Counting.{inside-length}
+use Rattle.policy.proofs.Commands.{makes-policy}
+use Rattle.policy.proofs.AppendDelete.{plan-one-count, plan-one-reaches}
+use Rattle.policy.proofs.Fewest.{plan-one-fewest}
+use Rattle.policy.proofs.InsertDeleteMove.{plan-two-count, plan-two-reaches}
+use Rattle.policy.proofs.Plans.{plan-one-verdict, plan-one-keeps-the-default, plan-two-verdict, plan-two-changes-once, plans-fit}
+use Rattle.deployment.specs.Bytes.{number, part}
+use Rattle.deployment.specs.Values.{Script, scriptBytes, scriptOf}
+use Rattle.deployment.specs.Contents.{Contents}
+use Rattle.deployment.specs.File.{Reading, accepted, refused, script-tag}
+use Rattle.deployment.specs.FieldValues.{filled}
+use Rattle.deployment.specs.Properties.{Scripted, Valid}
+use Rattle.deployment.specs.declared.Why.the-variants.{Room}
+use Rattle.deployment.specs.declared.Refusal.{Refusal}
+use Rattle.deployment.proofs.Values.{length-script, script-read}
+use Rattle.deployment.proofs.ReadBack.{tag-read, size-read, value-read}
+use Rattle.planner.specs.Plans.{Made, scriptField, planOf, madeOneOf, madeOne, madeTwoOf, madeTwo, Left, leftBy, sentPlan, placedPlan, planned}
+use Rattle.planner.specs.Claims.{Holds, HoldsOne, OneHolds, HoldsTwo, TwoHolds, TurnedAwayKeeps, RefusedForRoom, RoomForEvery}
+use Rattle.planner.specs.declared.Plan.{Plan}
+use Rattle.planner.specs.declared.Planned.{Planned}
+use Rattle.planner.specs.declared.Planned.the-variants.{Done, Turned}
+use Rattle.planner.proofs.Sending.{length-field}
+
+-- The numbers of a command that passes have two bytes.
+abbrev TwoBytes : Command → Type 0
+TwoBytes c = ((coded c) .one < 65536) × ((coded c) .two < 65536)
+
+makes-two-bytes : (size : ℕ) (l : List ℕ) (c : Command) (m : List ℕ) → size ≤ 1024 → length l ≤ 1024 → Makes size l c m → TwoBytes c
+unfolding coded
+makes-two-bytes size l (App r) m small short made = (omega arith, omega arith)
+makes-two-bytes size l (DelRule r) m small short made = (omega arith, omega arith)
+makes-two-bytes size l (Ins i r) m small short (u, v, inside, new, at, is, made) =
+    (omega (arith, ap length is, length-append u v), omega arith)
+makes-two-bytes size l (DelPlace i) m small short (u, x, v, at, is, made) =
+    (omega (arith, ap length is, length-append u (x ∷ v)), omega arith)
+makes-two-bytes size l (Mov i j) m small short (u, x, v, p, q, from, is, to, same, made) = (
+  omega (arith, ap length is, length-append u (x ∷ v)),
+  omega (arith, ap length is, length-append u (x ∷ v), ap length same, length-append u v, length-append p q),
+)
+
+leads-two-bytes : (size : ℕ) (l n : List ℕ) (script : List Command) → size ≤ 1024 → Policy size l → Leads size l script n
+    → (c : Command) → List·Memᴰ c script → TwoBytes c
+leads-two-bytes size l n [] small policy leads c t = absurd (List·Memᴰ·not-nil t)
+leads-two-bytes size l n (d ∷ script) small policy (m, made, rest) c t =
+    let few : length l ≤ size = inside-length size l (policy .distinct) (policy .inside) in
+    ⊎-elim
+    (λ same. rw same (makes-two-bytes size l d m small (omega arith) made))
+    (λ later. leads-two-bytes size m n script small (makes-policy size l d m made policy) rest c later)
+    (List·Memᴰ·cases-cons t)
+
+-- A script of one type that leads from one policy to the other can stand in a file.
+scripted : (c : Contents) → Valid c → (type : ℕ) → (type ≡ 1) ⊎ (type ≡ 2) → (commands : List Command) → length commands ≤ 1024
+    → (ofType type commands ≡ true) × Leads (length (c .catalogue)) (c .initial) commands (c .target)
+    → Scripted (record { type = type; commands = commands })
+unfolding ofType
+scripted c valid type either commands few (typed, leads) =
+    let small = leads-two-bytes (length (c .catalogue)) (c .initial) (c .target) commands (valid .catalogue .few) (valid .initial .sound) leads in
+    record {
+      type = either;
+      few = omega arith;
+      typed = λ d t. eqb-true (commandType d) type (all-in (λ e. eqb (commandType e) type) commands typed d t);
+      one = λ d t. small d t .0;
+      two = λ d t. small d t .1;
+    }
+
+-- Its field, at the front of a place, reads back.
+module _ (made : Made) (right : Scripted (made .script)) (place : List ℕ) where
+  value-short : length (scriptBytes (made .script)) < 65536
+  value-short = omega (arith, length-script (made .script), right .few)
+
+  field-holds : Holds (made .script .type) (made .script .commands) (planOf made) place (filled place (scriptField made))
+  unfolding filled scriptField planOf
+  field-holds =
+      let value = scriptBytes (made .script) in
+      let left = drop (length (scriptField made)) place in
+      let size : number (part 1 2 (filled place (scriptField made))) ≡ length value = size-read script-tag value left value-short in
+      record {
+        tag = tag-read script-tag value left (omega arith);
+        size = omega (arith, size, length-field (made .script), length-script (made .script));
+        reads = rw (size, value-read script-tag value left) (script-read (made .script) right);
+        counted = refl;
+        rest = drop-at (scriptField made) left (length (scriptField made)) refl;
+      }
+
+-- A plan that is answered is the plan, and the place is filled.
+done-filled : (plan other : Plan) (field place : List ℕ) → (sentPlan plan field place) .answer ≡ Done other
+    → (other ≡ plan) × ((sentPlan plan field place) .place ≡ filled place field)
+unfolding sentPlan
+done-filled plan other field place e =
+    byTest (leb (length field) (length place))
+    (λ room. let same : plan ≡ other = done-same (rw room at e) in (sym same, rw room))
+    (λ small. absurd (let z : _≡_ {A = ℕ} 0 1 = cc (rw small at e) in omega arith))
+  where
+    done-same : {p q : Plan} → Done p ≡ Done q → p ≡ q
+    done-same e = cc
+
+made-holds : (made : Made) → Scripted (made .script) → (place : List ℕ) (plan : Plan) → (placedPlan made place) .answer ≡ Done plan
+    → (plan ≡ planOf made) × Holds (made .script .type) (made .script .commands) plan place ((placedPlan made place) .place)
+unfolding placedPlan
+made-holds made right place plan e =
+    let so = done-filled (planOf made) plan (scriptField made) place e in
+    (so .0, rw (so .0, so .1) (field-holds made right place))
+
+module _ (c : Contents) (valid : Valid c) where
+  lists-accepted : Accepted (length (c .catalogue)) (c .initial) (c .target) (c .keep)
+  lists-accepted = record { first = valid .initial .sound; last = valid .target .sound; keepable = valid .keep }
+
+  plans-few : (length (planOne (c .initial) (c .target)) ≤ 1024) × (length (planTwo (c .initial) (c .target) (c .keep)) ≤ 1024)
+  plans-few =
+      plans-fit (length (c .catalogue)) (c .initial) (c .target) (c .keep) lists-accepted (valid .initial .few) (valid .target .few)
+
+pub one-holds : OneHolds
+unfolding planned madeOne madeOneOf planOf
+one-holds c place plan valid e =
+    let size = length (c .catalogue) in
+    let commands = planOne (c .initial) (c .target) in
+    let first = valid .initial .sound in
+    let last = valid .target .sound in
+    let reaches = plan-one-reaches size (c .initial) (c .target) first last in
+    let right = scripted c valid 1 (inl refl) commands (plans-few c valid .0) reaches in
+    let so = made-holds (madeOne c) right place plan e in
+    let counted = so .1 .counted in
+    let kept = ap (λ (p : Plan). p .kept) (so .0) in
+    record {
+      commands = commands;
+      written = so .1;
+      is = refl;
+      kept = kept;
+      count = rw (counted, kept) (plan-one-count (c .initial) (c .target) (first .distinct));
+      reaches = reaches .1;
+      fewest = λ other typed leads. rw counted (plan-one-fewest size (c .initial) (c .target) other (first .distinct) typed leads);
+      judged = plan-one-verdict size (c .initial) (c .target) first last;
+      denied = plan-one-keeps-the-default size (c .initial) (c .target) first last;
+    }
+
+pub two-holds : TwoHolds
+unfolding planned madeTwo madeTwoOf planOf
+two-holds c place plan valid e =
+    let size = length (c .catalogue) in
+    let commands = planTwo (c .initial) (c .target) (c .keep) in
+    let lists = lists-accepted c valid in
+    let reaches = plan-two-reaches size (c .initial) (c .target) (c .keep) lists in
+    let right = scripted c valid 2 (inr refl) commands (plans-few c valid .1) reaches in
+    let so = made-holds (madeTwo c) right place plan e in
+    let kept = ap (λ (p : Plan). p .kept) (so .0) in
+    record {
+      commands = commands;
+      written = so .1;
+      is = refl;
+      kept = kept;
+      count = rw (so .1 .counted, kept) (plan-two-count size (c .initial) (c .target) (c .keep) lists);
+      reaches = reaches .1;
+      judged = plan-two-verdict size (c .initial) (c .target) (c .keep) lists;
+      once = λ m. plan-two-changes-once m size (c .initial) (c .target) (c .keep) lists;
+    }
+
+-- Turned away.
+turned-keeps : (made : Made) (place : List ℕ) (refusal : Refusal) → (placedPlan made place) .answer ≡ Turned refusal
+    → (placedPlan made place) .place ≡ place
+unfolding placedPlan sentPlan
+turned-keeps made place refusal e =
+    byTest (leb (length (scriptField made)) (length place))
+    (λ room. absurd (let z : _≡_ {A = ℕ} 0 1 = cc (rw room at e) in omega arith))
+    (λ small. rw small)
+
+pub turned-away-keeps : TurnedAwayKeeps
+unfolding planned
+turned-away-keeps planner (accepted c) place refusal e = turned-keeps (planner c) place refusal e
+turned-away-keeps planner (refused other) place refusal e = refl
+
+pub refused-for-room : RefusedForRoom
+unfolding planned placedPlan sentPlan
+refused-for-room planner c place at =
+    let field = scriptField (planner c) in (
+      λ e. byTest (leb (length field) (length place))
+          (λ room. absurd (let z : _≡_ {A = ℕ} 0 1 = cc (rw room at e) in omega arith))
+          (λ small. (leb-false (length field) (length place) small, room-same (rw small at e))),
+      λ h. rw (h .1, lt-leb (length field) (length place) (h .0)),
+    )
+  where
+    room-same : {n m : ℕ} → Turned (record { why = Room; at = n }) ≡ Turned (record { why = Room; at = m }) → m ≡ n
+    room-same {n} {m} e =
+        let same : _≡_ {A = Refusal} (record { why = Room; at = n }) (record { why = Room; at = m }) = cc in
+        sym (ap (λ (r : Refusal). r .at) same)
+
+pub room-for-every : RoomForEvery
+unfolding scriptField madeOne madeOneOf madeTwo madeTwoOf
+room-for-every c valid =
+    let few = plans-few c valid in (
+      omega (arith, length-field (madeOne c .script), few .0),
+      omega (arith, length-field (madeTwo c .script), few .1),
+    )

@@ -1,0 +1,99 @@
+-- What a customer buys of the planners, about the definitions of their answers: what stands in the lent place is a script that reads back,
+-- with all that the theory says of it. Each claim is a statement; proofs/Claims.antt has, for each, a proof of the same name in small
+-- letters with hyphens, and proofs/Answers.antt says it of each entry. Assumes nothing.
+use Prim.Native.Nat.{ℕ, _+_, _*_, _≤_, _<_}
+use mathlib.Core.Path.{_≡_}
+use mathlib.Core.Logic.{_⊎_, _↔_}
+use mathlib.Core.Bool.{true}
+use mathlib.Core.List.{List}
+use mathlib.Core.Option.{some}
+use lib.ListN.{length, drop}
+use Rattle.policy.specs.Lists.{common}
+use Rattle.policy.specs.Policy.{Matching}
+use Rattle.policy.specs.Command.{ofType}
+use Rattle.policy.specs.Replay.{lists}
+use Rattle.policy.specs.AppendDelete.{keptRun, planOne}
+use Rattle.policy.specs.InsertDeleteMove.{keptTwo, planTwo, movesInPlace}
+use Rattle.policy.specs.Judge.{verdict}
+use Rattle.policy.specs.Properties.{Leads}
+use Rattle.policy.specs.Claims.{KeepsTheDefault, ChangesOnce, changePoint}
+use Rattle.policy.specs.declared.Command.{Command}
+use Rattle.policy.specs.declared.Verdict.the-variants.{NotFull, Safe}
+use Rattle.deployment.specs.Bytes.{number, part}
+use Rattle.deployment.specs.Values.{scriptOf}
+use Rattle.deployment.specs.Contents.{Contents}
+use Rattle.deployment.specs.File.{Reading, accepted, script-tag, head-bytes}
+use Rattle.deployment.specs.Properties.{Valid}
+use Rattle.deployment.specs.declared.Why.the-variants.{Room}
+use Rattle.deployment.specs.declared.Refusal.{Refusal}
+use Rattle.planner.specs.Plans.{Made, scriptField, madeOne, madeTwo, planned}
+use Rattle.planner.specs.declared.Plan.{Plan}
+use Rattle.planner.specs.declared.Planned.the-variants.{Done, Turned}
+
+-- a script field at the front of a place: tag 05, the length, and a value that reads back as these commands, as many as the answer counts;
+-- "the rest keep theirs"
+pub record Holds (type : ℕ) (commands : List Command) (plan : Plan) (before after : List ℕ) : Type 0 where
+  pub tag : number (part 0 1 after) ≡ script-tag
+  pub size : head-bytes + number (part 1 2 after) ≡ plan .bytes
+  pub reads : scriptOf (part head-bytes (number (part 1 2 after)) after) ≡ some (record { type = type; commands = commands })
+  pub counted : plan .commands ≡ length commands
+  pub rest : drop (plan .bytes) after ≡ drop (plan .bytes) before
+
+-- "Script for append and delete": the commands that stand in the place lead from the initial policy to the target, none are fewer, and
+-- the judge gives them 31 or 32
+pub record HoldsOne (c : Contents) (plan : Plan) (before after : List ℕ) : Type 0 where
+  pub commands : List Command
+  pub written : Holds 1 commands plan before after
+  pub is : commands ≡ planOne (c .initial) (c .target)
+  pub kept : plan .kept ≡ length (keptRun (c .initial) (c .target))
+  pub count : plan .commands + 2 * plan .kept ≡ length (c .initial) + length (c .target)
+  pub reaches : Leads (length (c .catalogue)) (c .initial) commands (c .target)
+  pub fewest : (other : List Command) → ofType 1 other ≡ true → Leads (length (c .catalogue)) (c .initial) other (c .target)
+      → plan .commands ≤ length other
+  pub judged : (verdict (length (c .catalogue)) (c .initial) (c .target) commands ≡ NotFull)
+      ⊎ (verdict (length (c .catalogue)) (c .initial) (c .target) commands ≡ Safe)
+  pub denied : KeepsTheDefault (length (c .catalogue)) (c .initial) (c .target) commands
+
+abbrev pub OneHolds : Type 0
+OneHolds =
+    (c : Contents) (place : List ℕ) (plan : Plan) → Valid c → (planned madeOne (accepted c) place) .answer ≡ Done plan
+    → HoldsOne c plan place ((planned madeOne (accepted c) place) .place)
+
+-- "Script for insert, delete and move": the commands that stand in the place lead from the initial policy to the target, the judge gives
+-- them 32, and each flow has one point of change
+pub record HoldsTwo (c : Contents) (plan : Plan) (before after : List ℕ) : Type 0 where
+  pub commands : List Command
+  pub written : Holds 2 commands plan before after
+  pub is : commands ≡ planTwo (c .initial) (c .target) (c .keep)
+  pub kept : plan .kept ≡ length (keptTwo (c .initial) (c .target) (c .keep))
+  pub count : plan .commands + (movesInPlace (c .initial) (c .target) (c .keep) + (length (common (c .initial) (c .target)) + plan .kept))
+      ≡ length (c .initial) + length (c .target)
+  pub reaches : Leads (length (c .catalogue)) (c .initial) commands (c .target)
+  pub judged : verdict (length (c .catalogue)) (c .initial) (c .target) commands ≡ Safe
+  pub once : (m : Matching)
+      → ChangesOnce m (length (c .catalogue)) (c .initial) (c .target) commands
+      (changePoint m (c .target) (lists (length (c .catalogue)) (c .initial) commands))
+
+abbrev pub TwoHolds : Type 0
+TwoHolds =
+    (c : Contents) (place : List ℕ) (plan : Plan) → Valid c → (planned madeTwo (accepted c) place) .answer ≡ Done plan
+    → HoldsTwo c plan place ((planned madeTwo (accepted c) place) .place)
+
+-- "When turned away, every lent place keeps its bytes"
+abbrev pub TurnedAwayKeeps : Type 0
+TurnedAwayKeeps =
+    (planner : Contents → Made) (reading : Reading) (place : List ℕ) (refusal : Refusal)
+    → (planned planner reading place) .answer ≡ Turned refusal → (planned planner reading place) .place ≡ place
+
+-- Refusal 13: "lent room smaller than what is to be written", at the bytes needed
+abbrev pub RefusedForRoom : Type 0
+RefusedForRoom =
+    (planner : Contents → Made) (c : Contents) (place : List ℕ) (at : ℕ)
+    → ((planned planner (accepted c) place) .answer ≡ Turned (record { why = Room; at = at }))
+    ↔ ((length place < length (scriptField (planner c))) × (at ≡ length (scriptField (planner c))))
+
+-- A place of 5,124 bytes has room for every plan of either type.
+abbrev pub RoomForEvery : Type 0
+RoomForEvery =
+    (c : Contents) → Valid c
+    → (length (scriptField (madeOne c)) ≤ 5124) × (length (scriptField (madeTwo c)) ≤ 5124)
