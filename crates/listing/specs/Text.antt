@@ -70,12 +70,15 @@ headText type initial target kept commands =
 unfoldable pub blockText : ℕ → ℕ → ℕ → ℕ → List Command → List ℕ
 blockText type initial target kept script = headText type initial target kept (length script) ++ linesText 1 script
 
--- both plans of a file's contents
+-- one plan of a file's contents: its type, how many rules it keeps, its script
+unfoldable pub planBlock : Contents → ℕ → ℕ → List Command → List ℕ
+planBlock c type kept script = blockText type (length (c .initial)) (length (c .target)) kept script
+
+-- both plans
 unfoldable pub planText : Contents → List ℕ
 planText c =
-    let block = λ (type kept : ℕ) (script : List Command). blockText type (length (c .initial)) (length (c .target)) kept script in
-    block 1 (length (keptRun (c .initial) (c .target))) (planOne (c .initial) (c .target))
-    ++ block 2 (length (keptTwo (c .initial) (c .target) (c .keep))) (planTwo (c .initial) (c .target) (c .keep))
+    planBlock c 1 (length (keptRun (c .initial) (c .target))) (planOne (c .initial) (c .target))
+    ++ planBlock c 2 (length (keptTwo (c .initial) (c .target) (c .keep))) (planTwo (c .initial) (c .target) (c .keep))
 
 -- "A bad file gives one line, as `refused 3 at 0`."
 unfoldable pub refusedText : Refusal → List ℕ
