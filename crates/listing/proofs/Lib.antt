@@ -2,3 +2,7 @@
 pub mod Digits
 pub mod Pieces
 pub mod Lines
+pub mod Lengths
+pub mod PlanTexts
+pub mod JudgeTexts
+pub mod HandedOver

@@ -3,13 +3,14 @@
 ghost use mathlib.Core.Path.{_≡_};
 ghost use Rattle.policy.specs.Command.{faultNumber};
 ghost use Rattle.policy.specs.Judge.{verdictNumbers};
-ghost use Rattle.deployment.specs.FieldValues.{Stored};
-ghost use Rattle.listing.specs.Text.{refusedText, spacedAll, verdictText};
-ghost use Rattle.listing.specs.Printing.{Ends};
+ghost use Prim.Native.Nat.{_+_, _≤_};
+ghost use Rattle.listing.specs.Text.{refusedText, verdictText};
+ghost use Rattle.listing.specs.Printing.{most-text, most-values, Values, Whole};
 use super::words::put_named;
 use super::words::put_spaced;
 use super::words::put_word;
 use deployment::Refusal;
+use deployment::Why;
 use policy::Fault;
 use policy::Verdict;
 
@@ -24,11 +25,18 @@ const SAFE: usize = 32;
 
 // "A bad file gives one line, as `refused 3 at 0`."
 pub fn put_refused(place: &mut [u8], refusal: Refusal) -> usize
-    ensures { λ next. ⌜ Stored (now (place .entry)) 0 (refusedText refusal) (now (place .exit)) next ⌝ }
+    ensures { λ next. ⌜ Whole (now (place .entry)) (refusedText refusal) (now (place .exit)) next ⌝ }
 {
     let why = refusal.why;
+    put_why(place, why, refusal.at)
+}
+
+// The same, of the number's case and the position.
+fn put_why(place: &mut [u8], why: Why, at: usize) -> usize
+    ensures { λ next. ⌜ Whole (now (place .entry)) (refusedText (record { why = why; at = at })) (now (place .exit)) next ⌝ }
+{
     let mut next = put_named(place, 0, b"refused", why.number() as usize);
-    next = put_named(place, next, b" at", refusal.at);
+    next = put_named(place, next, b" at", at);
     put_word(place, next, b"\n")
 }
 
@@ -46,8 +54,8 @@ fn fault_number(fault: Fault) -> usize
 
 // The number of a verdict and its values.
 fn put_values(place: &mut [u8], at: usize, v: Verdict) -> usize
-    requires { ⌜ Ends at (spacedAll (verdictNumbers v)) ⌝ }
-    ensures { λ next. ⌜ Stored (now (place .entry)) at (spacedAll (verdictNumbers v)) (now (place .exit)) next ⌝ }
+    requires { ⌜ at + most-values ≤ most-text ⌝ }
+    ensures { λ next. ⌜ Values (now (place .entry)) at (verdictNumbers v) (now (place .exit)) next ⌝ }
 {
     match v {
         Verdict::Broken(fault, step) => {
@@ -70,7 +78,7 @@ fn put_values(place: &mut [u8], at: usize, v: Verdict) -> usize
 
 // "one line, as `verdict 30 1 2`, `verdict 22 5` or `verdict 32`"
 pub fn put_verdict(place: &mut [u8], v: Verdict) -> usize
-    ensures { λ next. ⌜ Stored (now (place .entry)) 0 (verdictText v) (now (place .exit)) next ⌝ }
+    ensures { λ next. ⌜ Whole (now (place .entry)) (verdictText v) (now (place .exit)) next ⌝ }
 {
     let mut next = put_word(place, 0, b"verdict");
     next = put_values(place, next, v);

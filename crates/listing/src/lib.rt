@@ -6,8 +6,9 @@ ghost use Prim.Native.Nat.{_≤_};
 ghost use lib.ListN.{length, take};
 ghost use Rattle.deployment.specs.Contents.{Contents};
 ghost use Rattle.deployment.specs.File.{accepted, readFile};
-ghost use Rattle.deployment.specs.FieldValues.{leftBy, Stored, writing};
+ghost use Rattle.deployment.specs.FieldValues.{leftBy, writing};
 ghost use Rattle.listing.specs.Text.{planPrinted, judgePrinted};
+ghost use Rattle.listing.specs.Printing.{Whole};
 use answers::put_refused;
 use answers::put_verdict;
 use blocks::put_block;
@@ -71,7 +72,7 @@ fn hand_over(text: &[u8], size: usize, place: &mut [u8]) -> Written
 
 // The text of both plans, or of the refusal.
 fn put_plans(file: &[u8], place: &mut [u8]) -> usize
-    ensures { λ next. ⌜ Stored (now (place .entry)) 0 (planPrinted (now (file .entry))) (now (place .exit)) next ⌝ }
+    ensures { λ next. ⌜ Whole (now (place .entry)) (planPrinted (now (file .entry))) (now (place .exit)) next ⌝ }
 {
     let found = read(file);
     match found {
@@ -88,7 +89,7 @@ fn put_plans(file: &[u8], place: &mut [u8]) -> usize
 fn put_both(file: &[u8], initial: usize, target: usize, place: &mut [u8]) -> usize
     requires { ⌜
         ((c : Contents) × (readFile (now file) ≡ accepted c) × (initial ≡ length (c .initial)) × (target ≡ length (c .target))) ⌝ }
-    ensures { λ next. ⌜ Stored (now (place .entry)) 0 (planPrinted (now (file .entry))) (now (place .exit)) next ⌝ }
+    ensures { λ next. ⌜ Whole (now (place .entry)) (planPrinted (now (file .entry))) (now (place .exit)) next ⌝ }
 {
     let mut field = [0u8; FIELD_BYTES];
     let one = plan_one_file(file, &mut field);
@@ -101,7 +102,7 @@ fn put_both(file: &[u8], initial: usize, target: usize, place: &mut [u8]) -> usi
 
 // The text of the verdict, or of the refusal.
 fn put_judged(file: &[u8], place: &mut [u8]) -> usize
-    ensures { λ next. ⌜ Stored (now (place .entry)) 0 (judgePrinted (now (file .entry))) (now (place .exit)) next ⌝ }
+    ensures { λ next. ⌜ Whole (now (place .entry)) (judgePrinted (now (file .entry))) (now (place .exit)) next ⌝ }
 {
     let found = judge_file(file);
     match found {

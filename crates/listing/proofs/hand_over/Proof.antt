@@ -1,3 +1,9 @@
+-- `hand_over` meets its contract: without room the place is left as it was, else the text fills its first bytes. Assumes nothing.
+use native.Mathlib.Omega.{arith}
+use mathlib.Core.Path.{_≡_, sym}
+use lib.ListN.{length, take}
+use lib.Seq.{length-take-le}
+use Rattle.listing.proofs.HandedOver.{no-room, room}
 use borrow.Author.Needs.{needs}
 use Rattle.listing.proofs.hand_over.Statement.{statement}
 use Rattle.listing.proofs.hand_over.Tie as tie
@@ -7,11 +13,17 @@ use Rattle.deployment.proofs.store.Reads as store-reads
 
 -- src/lib.rt:63:9
 returns : tie.Need-returns
-returns c = ?
+returns c =
+    let start = c .before .before .before in
+    let text = start .args .text .now in
+    let size = start .args .size in
+    let long : length (take size text) ≡ size = length-take-le size text (start .pre) in
+    rw long at (no-room (take size text) (start .args .place .now) (omega arith))
 
 -- src/lib.rt:68:21
 slice-aggregate-store : tie.Need-slice-aggregate-store
-slice-aggregate-store c = ?
+slice-aggregate-store c =
+    let start = c .before .before .before .before .before in sym (length-take-le (start .args .size) (start .args .text .now) (start .pre))
 
 -- src/lib.rt:68:5
 store-requires : tie.Need-store-requires
@@ -23,7 +35,12 @@ same-length c = search needs
 
 -- src/lib.rt:58:1
 returns-2 : tie.Need-returns-2
-returns-2 c = ?
+returns-2 c =
+    let start = c .before .before .before .before .before .before .before .before in
+    let text = start .args .text .now in
+    let size = start .args .size in
+    let long : length (take size text) ≡ size = length-take-le size text (start .pre) in
+    rw long at (room (take size text) (start .args .place .now) _ (c .before .before .store .ensures) (omega arith))
 
 pub hand-over-spec : {M : Type 1} → statement M
 hand-over-spec =

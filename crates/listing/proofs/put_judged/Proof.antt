@@ -7,39 +7,39 @@ use Rattle.judge.proofs.judge_file.Reads as judge-file-reads
 use Rattle.listing.proofs.answers.put_refused.Reads as put-refused-reads
 use Rattle.listing.proofs.answers.put_verdict.Reads as put-verdict-reads
 
--- src/lib.rt:106:9
+-- src/lib.rt:107:9
 judge-file-requires : tie.Need-judge-file-requires
 judge-file-requires c κs = search needs
 
--- src/lib.rt:108:24
+-- src/lib.rt:109:24
 enum-known-found : tie.Need-enum-known-found
 enum-known-found c = search needs
 
--- src/lib.rt:108:36
+-- src/lib.rt:109:36
 put-refused-requires : tie.Need-put-refused-requires
 put-refused-requires c κs = search needs
 
--- src/lib.rt:109:22
+-- src/lib.rt:110:22
 enum-known-found-2 : tie.Need-enum-known-found-2
 enum-known-found-2 c = search needs
 
--- src/lib.rt:109:28
+-- src/lib.rt:110:28
 put-verdict-requires : tie.Need-put-verdict-requires
 put-verdict-requires c κs = search needs
 
--- src/lib.rt:103:1
+-- src/lib.rt:104:1
 same-length : tie.Need-same-length
 same-length c = search needs
 
--- src/lib.rt:103:1
+-- src/lib.rt:104:1
 returns : tie.Need-returns
 returns c = ?
 
--- src/lib.rt:103:1
+-- src/lib.rt:104:1
 same-length-2 : tie.Need-same-length-2
 same-length-2 c = search needs
 
--- src/lib.rt:103:1
+-- src/lib.rt:104:1
 returns-2 : tie.Need-returns-2
 returns-2 c = ?
 

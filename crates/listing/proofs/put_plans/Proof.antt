@@ -9,55 +9,55 @@ use Rattle.listing.proofs.put_both.Reads as put-both-reads
 use Rattle.reader.proofs.file.read.Reads as read-reads
 use Rattle.reader.proofs.file.value.Reads as value-reads
 
--- src/lib.rt:76:9
+-- src/lib.rt:77:9
 read-requires : tie.Need-read-requires
 read-requires c κs = search needs
 
--- src/lib.rt:78:27
+-- src/lib.rt:79:27
 enum-known-found : tie.Need-enum-known-found
 enum-known-found c = search needs
 
--- src/lib.rt:78:39
+-- src/lib.rt:79:39
 put-refused-requires : tie.Need-put-refused-requires
 put-refused-requires c κs = search needs
 
--- src/lib.rt:79:28
+-- src/lib.rt:80:28
 enum-known-found-2 : tie.Need-enum-known-found-2
 enum-known-found-2 c = search needs
 
--- src/lib.rt:80:34
+-- src/lib.rt:81:34
 value-requires : tie.Need-value-requires
 value-requires c κs = search needs
 
--- src/lib.rt:80:17
+-- src/lib.rt:81:17
 listed-requires : tie.Need-listed-requires
 listed-requires c κs = search needs
 
--- src/lib.rt:81:33
+-- src/lib.rt:82:33
 value-requires-2 : tie.Need-value-requires-2
 value-requires-2 c κs = search needs
 
--- src/lib.rt:81:17
+-- src/lib.rt:82:17
 listed-requires-2 : tie.Need-listed-requires-2
 listed-requires-2 c κs = search needs
 
--- src/lib.rt:82:13
+-- src/lib.rt:83:13
 put-both-requires : tie.Need-put-both-requires
 put-both-requires c κs = ?
 
--- src/lib.rt:73:1
+-- src/lib.rt:74:1
 same-length : tie.Need-same-length
 same-length c = search needs
 
--- src/lib.rt:73:1
+-- src/lib.rt:74:1
 returns : tie.Need-returns
 returns c = ?
 
--- src/lib.rt:73:1
+-- src/lib.rt:74:1
 same-length-2 : tie.Need-same-length-2
 same-length-2 c = search needs
 
--- src/lib.rt:73:1
+-- src/lib.rt:74:1
 returns-2 : tie.Need-returns-2
 returns-2 c = search needs
 

@@ -1,3 +1,5 @@
+-- `fault_number` meets its contract: each case is the definition's own. Assumes nothing.
+use Rattle.policy.specs.Command.{faultNumber}
 use borrow.Author.Needs.{needs}
 use Rattle.listing.proofs.answers.fault_number.Statement.{statement}
 use Rattle.listing.proofs.answers.fault_number.Tie as tie
@@ -22,19 +24,23 @@ enum-told-4 c = search needs
 
 -- src/answers.rt:36:1
 returns : tie.Need-returns
-returns c = ?
+unfolding faultNumber
+returns c = rw (c .enum-told .given .1)
 
 -- src/answers.rt:36:1
 returns-2 : tie.Need-returns-2
-returns-2 c = ?
+unfolding faultNumber
+returns-2 c = rw (c .enum-told2 .given .1)
 
 -- src/answers.rt:36:1
 returns-3 : tie.Need-returns-3
-returns-3 c = ?
+unfolding faultNumber
+returns-3 c = rw (c .enum-told3 .given .1)
 
 -- src/answers.rt:36:1
 returns-4 : tie.Need-returns-4
-returns-4 c = ?
+unfolding faultNumber
+returns-4 c = rw (c .enum-told4 .given .1)
 
 pub fault-number-spec : {M : Type 1} → statement M
 fault-number-spec =
