@@ -1,7 +1,7 @@
 -- The text of a verdict on a file: the verdict's line, or the refusal's. Assumes nothing.
 use Prim.Native.Nat.{ℕ}
 use native.Mathlib.Omega.{arith}
-use mathlib.Core.Path.{_≡_, refl, sym, _∙_, ap}
+use mathlib.Core.Path.{_≡_, sym, ap}
 use mathlib.Core.List.{List}
 use lib.ListN.{length}
 use Rattle.policy.specs.Judge.{verdict}

@@ -3,14 +3,18 @@
 use Prim.Native.Nat.{ℕ, suc, _+_, _*_, _^_, _≤_, _<_}
 use native.Mathlib.Omega.{arith}
 use mathlib.Core.Path.{_≡_, refl}
-use mathlib.Core.List.{List, [], _∷_, _++_, List·Memᴰ, List·Memᴰ·head, List·Memᴰ·tail}
+use mathlib.Core.List.{List, [], _∷_, List·Memᴰ, List·Memᴰ·head, List·Memᴰ·tail}
 use lib.ListN.{length, length-append}
 use Rattle.policy.specs.Command.{coded}
 use Rattle.policy.specs.declared.Command.{Command}
 use Rattle.policy.specs.declared.Command.the-variants.{App, DelRule, Ins, DelPlace, Mov}
 use Rattle.deployment.specs.Checked.{whyNumber}
+use Rattle.policy.specs.Judge.{verdictNumbers}
+use Rattle.policy.specs.declared.Verdict.{Verdict}
 use Rattle.deployment.specs.declared.Refusal.{Refusal}
-use Rattle.listing.specs.Text.{text, decimal, spaced, named, commandText, lineText, linesText, headText, refusedText, spacedAll}
+use Rattle.deployment.specs.declared.Why.{Why}
+use Rattle.deployment.specs.declared.Why.the-variants.{Cut, Tag, NoTarget, Length, Bounds, Equal, TooMany, Outside, Twice, Keep, Coding, NoScript, Room}
+use Rattle.listing.specs.Text.{text, decimal, spaced, named, commandText, lineText, linesText, headText, refusedText, spacedAll, verdictText}
 use Rattle.listing.proofs.Digits.{length-decimal}
 
 pub length-spaced : (n : ℕ) → length (spaced n) ≡ suc (length (decimal n))
@@ -38,9 +42,37 @@ pub length-head : (type initial target kept commands : ℕ)
 unfolding headText named text
 length-head type initial target kept commands = simp length-append (omega arith)
 
-pub length-refused : (r : Refusal) → length (refusedText r) ≡ 11 + (length (spaced (whyNumber (r .why))) + length (spaced (r .at)))
+length-refused : (r : Refusal) → length (refusedText r) ≡ 11 + (length (spaced (whyNumber (r .why))) + length (spaced (r .at)))
 unfolding refusedText named text
 length-refused r = simp length-append (omega arith)
+
+why-small : (why : Why) → whyNumber why ≤ 13
+why-small Cut = omega arith
+why-small Tag = omega arith
+why-small NoTarget = omega arith
+why-small Length = omega arith
+why-small Bounds = omega arith
+why-small Equal = omega arith
+why-small TooMany = omega arith
+why-small Outside = omega arith
+why-small Twice = omega arith
+why-small Keep = omega arith
+why-small Coding = omega arith
+why-small NoScript = omega arith
+why-small Room = omega arith
+
+pub refused-short : (r : Refusal) → r .at < 2 ^ 64 → length (refusedText r) ≤ 53
+refused-short r h =
+    omega (
+      arith,
+      length-refused r,
+      spaced-short (whyNumber (r .why)) (omega (arith, why-small (r .why))),
+      spaced-short (r .at) h,
+    )
+
+pub verdict-short : (v : Verdict) → length (spacedAll (verdictNumbers v)) ≤ 63 → length (verdictText v) ≤ 71
+unfolding verdictText text
+verdict-short v h = omega (arith, length-append (spacedAll (verdictNumbers v)) (10 ∷ []))
 
 pub command-short : (c : Command) → (coded c) .one < 65536 → (coded c) .two < 65536 → length (commandText c) ≤ 15
 unfolding commandText named text coded

@@ -6,3 +6,5 @@ pub mod Lengths
 pub mod PlanTexts
 pub mod JudgeTexts
 pub mod HandedOver
+pub mod Claims
+pub mod Answers

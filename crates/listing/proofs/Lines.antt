@@ -4,7 +4,6 @@ use native.Mathlib.Numerals.{add-one}
 use native.Mathlib.Omega.{arith}
 use mathlib.Core.Path.{_≡_, refl, sym, _∙_, ap}
 use mathlib.Core.List.{List, [], _∷_, _++_, append-assoc, append-nil}
-use mathlib.Core.Option.{some}
 use lib.ListN.{length, drop, drop-of-length-le}
 use Rattle.policy.specs.declared.Command.{Command}
 use Rattle.deployment.specs.Values.{scriptOf}

@@ -1,8 +1,8 @@
 -- Texts in pieces: the first piece of a text that ends inside the longest one does so, and so does the rest, behind it. Assumes nothing.
-use Prim.Native.Nat.{ℕ, _+_}
+use Prim.Native.Nat.{ℕ}
 use native.Mathlib.Omega.{arith}
 use mathlib.Core.List.{List, [], _∷_, _++_, append-nil}
-use lib.ListN.{length, length-append}
+use lib.ListN.{length-append}
 use Rattle.deployment.specs.FieldValues.{Stored}
 use Rattle.deployment.proofs.Storing.{stored-more}
 use Rattle.listing.specs.Text.{spaced, spacedAll}

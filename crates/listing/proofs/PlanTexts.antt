@@ -1,15 +1,15 @@
 -- The plans' blocks: what a planner leaves in a place of 5,124 bytes reads as the plan, so its block is that of the definition; and both blocks of
 -- an accepted file end inside the longest text. Assumes nothing.
-use Prim.Native.Nat.{ℕ, _+_, _*_, _-_, _≤_, _<_}
+use Prim.Native.Nat.{ℕ, _-_, _≤_, _<_}
 use native.Mathlib.Omega.{arith}
 use mathlib.Core.Path.{_≡_, refl, sym, _∙_, ap}
-use mathlib.Core.Logic.{_⊎_, inl, inr}
-use mathlib.Core.List.{List, _++_, List·Memᴰ}
+use mathlib.Core.Logic.{inl, inr}
+use mathlib.Core.List.{List, _++_}
 use mathlib.Core.Option.{some}
 use borrow.Author.Tests.{le-leb}
 use lib.ListN.{length, take, drop, length-append}
 use Rattle.policy.specs.AppendDelete.{keptRun, planOne}
-use Rattle.policy.specs.InsertDeleteMove.{keptTwo, planTwo, movesInPlace}
+use Rattle.policy.specs.InsertDeleteMove.{keptTwo, planTwo}
 use Rattle.policy.specs.declared.Command.{Command}
 use Rattle.policy.proofs.AppendDelete.{plan-one-count, plan-one-reaches}
 use Rattle.policy.proofs.InsertDeleteMove.{plan-two-count, plan-two-reaches}
@@ -22,13 +22,13 @@ use Rattle.deployment.specs.FieldValues.{Stored}
 use Rattle.deployment.specs.declared.Refusal.{Refusal}
 use Rattle.deployment.proofs.Storing.{stored-more}
 use Rattle.replay.specs.Answers.{commandsOf}
-use Rattle.planner.specs.Plans.{Made, scriptField, planOf, madeOneOf, madeOne, madeTwoOf, madeTwo, Left, leftBy, sentPlan, placedPlan, planned}
+use Rattle.planner.specs.Plans.{Made, scriptField, planOf, madeOne, madeTwo, Left, leftBy, sentPlan, placedPlan, planned}
 use Rattle.planner.specs.Claims.{Holds}
 use Rattle.planner.specs.declared.Plan.{Plan}
 use Rattle.planner.specs.declared.Planned.{Planned}
 use Rattle.planner.specs.declared.Planned.the-variants.{Done, Turned}
 use Rattle.planner.proofs.Claims.{scripted, lists-accepted, plans-few, one-holds, two-holds, room-for-every}
-use Rattle.listing.specs.Text.{spaced, commandText, linesText, headText, blockText, planBlock, planText, refusedText, planPrinted}
+use Rattle.listing.specs.Text.{linesText, headText, blockText, planBlock, planText, refusedText, planPrinted}
 use Rattle.listing.specs.Printing.{most-text, Ends, Whole, Reads}
 use Rattle.listing.proofs.Pieces.{ends-first, ends-rest}
 use Rattle.listing.proofs.Lengths.{two-bytes-short, length-head, command-short, lines-short}
@@ -141,15 +141,19 @@ plans-short c valid =
       arith,
       length-append (planBlock c 1 (length (keptRun (c .initial) (c .target))) one) (planBlock c 2 (length (keptTwo (c .initial) (c .target) (c .keep))) two),
       block-short 1 (length (c .initial)) (length (c .target)) (length (keptRun (c .initial) (c .target))) (record { type = 1; commands = one })
-      (omega arith) (omega arith) (omega arith) (omega (arith, count-one)) (few .0) right-one,
+          (omega arith) (omega arith) (omega arith) (omega (arith, count-one)) (few .0) right-one,
       block-short 2 (length (c .initial)) (length (c .target)) (length (keptTwo (c .initial) (c .target) (c .keep))) (record { type = 2; commands = two })
-      (omega arith) (omega arith) (omega arith) (omega (arith, count-two)) (few .1) right-two,
+          (omega arith) (omega arith) (omega arith) (omega (arith, count-two)) (few .1) right-two,
     )
 
 -- The text of a file: the refusal's line, or both blocks one behind the other.
 pub printed-refusal : (file : List ℕ) (refusal : Refusal) → readFile file ≡ refused refusal → planPrinted file ≡ refusedText refusal
 unfolding planPrinted
 printed-refusal file refusal e = rw (e, planPrinted)
+
+pub printed-plans : (file : List ℕ) (c : Contents) → readFile file ≡ accepted c → planPrinted file ≡ planText c
+unfolding planPrinted
+printed-plans file c e = rw (e, planPrinted)
 
 module _ (c : Contents) (valid : Valid c) (initial target : ℕ) (i : initial ≡ length (c .initial)) (t : target ≡ length (c .target)) where
   abbrev pub block-one : List ℕ
@@ -174,6 +178,5 @@ module _ (c : Contents) (valid : Valid c) (initial target : ℕ) (i : initial �
 
     pub both-printed : {place : List ℕ} {end : ℕ} → Stored middle next block-two place end → (file : List ℕ) → readFile file ≡ accepted c
         → Whole old (planPrinted file) place end
-    unfolding planPrinted
     both-printed second file e =
-        rw (e, planPrinted, ← both-blocks) (record { put = stored-more first second; ends = rw both-blocks (plans-short c valid) })
+        rw (printed-plans file c e, ← both-blocks) (record { put = stored-more first second; ends = rw both-blocks (plans-short c valid) })

@@ -9,8 +9,6 @@ ghost use Rattle.deployment.specs.File.{accepted, readFile};
 ghost use Rattle.deployment.specs.FieldValues.{leftBy, writing};
 ghost use Rattle.listing.specs.Text.{planPrinted, judgePrinted};
 ghost use Rattle.listing.specs.Printing.{Whole};
-use answers::put_refused;
-use answers::put_verdict;
 use blocks::put_block;
 use deployment::Refusal;
 use deployment::Why;
@@ -19,6 +17,8 @@ use deployment::listed;
 use deployment::store;
 use judge::Judged;
 use judge::judge_file;
+use outcomes::put_refused;
+use outcomes::put_verdict;
 use planner::plan_one_file;
 use planner::plan_two_file;
 use policy::Command;
@@ -26,9 +26,9 @@ use reader::FileRead;
 use reader::file::read;
 use reader::file::value;
 
-mod answers;
 mod blocks;
 mod commands;
+mod outcomes;
 mod words;
 
 // No text is longer: a place of so many bytes is never too small.

@@ -7,11 +7,7 @@ use Rattle.listing.proofs.HandedOver.{no-room, room}
 use borrow.Author.Needs.{needs}
 use Rattle.listing.proofs.hand_over.Statement.{statement}
 use Rattle.listing.proofs.hand_over.Tie as tie
-use Rattle.listing.proofs.hand_over.Reads as reads
-use Rattle.listing.proofs.hand_over.Lts as lts
-use Rattle.deployment.proofs.store.Reads as store-reads
 
--- src/lib.rt:63:9
 returns : tie.Need-returns
 returns c =
     let start = c .before .before .before in
@@ -20,20 +16,16 @@ returns c =
     let long : length (take size text) ≡ size = length-take-le size text (start .pre) in
     rw long at (no-room (take size text) (start .args .place .now) (omega arith))
 
--- src/lib.rt:68:21
 slice-aggregate-store : tie.Need-slice-aggregate-store
 slice-aggregate-store c =
     let start = c .before .before .before .before .before in sym (length-take-le (start .args .size) (start .args .text .now) (start .pre))
 
--- src/lib.rt:68:5
 store-requires : tie.Need-store-requires
 store-requires c κs = search needs
 
--- src/lib.rt:58:1
 same-length : tie.Need-same-length
 same-length c = search needs
 
--- src/lib.rt:58:1
 returns-2 : tie.Need-returns-2
 returns-2 c =
     let start = c .before .before .before .before .before .before .before .before in

@@ -1,34 +1,36 @@
+-- `plan_text` meets its contract: the whole text is put into a place of its own, which has room for every text, and handed over. Assumes nothing.
+use Prim.Native.Nat.{ℕ}
+use mathlib.Core.Path.{_∙_, ap}
+use mathlib.Core.List.{List}
+use lib.ListN.{replicate, length-replicate}
+use Rattle.deployment.specs.FieldValues.{writing}
+use Rattle.listing.proofs.HandedOver.{whole-inside, whole-taken}
 use borrow.Author.Needs.{needs}
 use Rattle.listing.proofs.plan_text.Statement.{statement}
 use Rattle.listing.proofs.plan_text.Tie as tie
-use Rattle.listing.proofs.plan_text.Reads as reads
-use Rattle.listing.proofs.plan_text.Lts as lts
-use Rattle.listing.proofs.hand_over.Reads as hand-over-reads
-use Rattle.listing.proofs.put_plans.Reads as put-plans-reads
 
--- src/lib.rt:44:32
 slice-aggregate-put-plans : tie.Need-slice-aggregate-put-plans
 slice-aggregate-put-plans c = search needs
 
--- src/lib.rt:44:9
 put-plans-requires : tie.Need-put-plans-requires
 put-plans-requires c κs = search needs
 
--- src/lib.rt:45:15
 slice-aggregate-hand-over : tie.Need-slice-aggregate-hand-over
 slice-aggregate-hand-over c = search needs
 
--- src/lib.rt:45:5
 hand-over-requires : tie.Need-hand-over-requires
-hand-over-requires c κs = ?
+hand-over-requires c κs =
+    let put = c .before .before .before in whole-inside {old = replicate 65536 0} (length-replicate {A = ℕ} 65536 0) (search needs) (put .put-plans .ensures)
 
--- src/lib.rt:40:1
 same-length : tie.Need-same-length
 same-length c = search needs
 
--- src/lib.rt:40:1
 returns : tie.Need-returns
-returns c = ?
+returns c =
+    let put = c .before .before .before .before .before .before in
+    let place = put .before .before .before .before .args .place .now in
+    c .before .before .hand-over .ensures
+    ∙ ap (λ (text : List ℕ). writing text place) (whole-taken {old = replicate 65536 0} (length-replicate {A = ℕ} 65536 0) (put .put-plans .ensures))
 
 pub plan-text-spec : {M : Type 1} → statement M
 plan-text-spec =

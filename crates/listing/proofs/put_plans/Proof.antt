@@ -1,63 +1,78 @@
+-- `put_plans` meets its contract: a refusal's line, or both plans of the lists at their places. Assumes nothing.
+use native.Mathlib.Omega.{arith}
+use mathlib.Core.Path.{refl, sym, _∙_, ap}
+use lib.ListN.{length}
+use Rattle.deployment.specs.File.{readFile}
+use Rattle.deployment.proofs.Bytes.{elements-are-bytes}
+use Rattle.reader.specs.Answers.{valueAt}
+use Rattle.planner.proofs.GivenLists.{Accepts, file-refused, file-accepted}
+use Rattle.listing.proofs.PlanTexts.{printed-refusal}
 use borrow.Author.Needs.{needs}
 use Rattle.listing.proofs.put_plans.Statement.{statement}
 use Rattle.listing.proofs.put_plans.Tie as tie
-use Rattle.listing.proofs.put_plans.Reads as reads
-use Rattle.listing.proofs.put_plans.Lts as lts
-use Rattle.deployment.proofs.listed.Reads as listed-reads
-use Rattle.listing.proofs.answers.put_refused.Reads as put-refused-reads
-use Rattle.listing.proofs.put_both.Reads as put-both-reads
-use Rattle.reader.proofs.file.read.Reads as read-reads
-use Rattle.reader.proofs.file.value.Reads as value-reads
 
--- src/lib.rt:77:9
+-- the lists at their places are those of the contents that were read
+lists : (c : tie.After-listed2) →
+    let found = c .before .before .before .before .before in
+    let layout = found .found2 .given .0 .0 in
+    let file = found .before .before .before .before .before .args .file .now in
+    Accepts (readFile file) (c .before .before .before .value .result .now) (c .before .value2 .result .now) (layout .«has_keep») (valueAt (layout .keep) file)
+lists c =
+    let found = c .before .before .before .before .before in
+    let read = found .before .before in
+    let known = read .before .before in
+    let file = known .before .args .file .now in
+    file-accepted file (found .found2 .given .0 .0) _ _ _ (elements-are-bytes file (λ i. omega (arith, known .shared-slice-known .given i)))
+    (sym (found .found2 .given .1) ∙ read .read .ensures) (c .before .before .before .value .ensures) (c .before .value2 .ensures) refl
+
 read-requires : tie.Need-read-requires
 read-requires c κs = search needs
 
--- src/lib.rt:79:27
 enum-known-found : tie.Need-enum-known-found
 enum-known-found c = search needs
 
--- src/lib.rt:79:39
 put-refused-requires : tie.Need-put-refused-requires
 put-refused-requires c κs = search needs
 
--- src/lib.rt:80:28
 enum-known-found-2 : tie.Need-enum-known-found-2
 enum-known-found-2 c = search needs
 
--- src/lib.rt:81:34
 value-requires : tie.Need-value-requires
 value-requires c κs = search needs
 
--- src/lib.rt:81:17
 listed-requires : tie.Need-listed-requires
 listed-requires c κs = search needs
 
--- src/lib.rt:82:33
 value-requires-2 : tie.Need-value-requires-2
 value-requires-2 c κs = search needs
 
--- src/lib.rt:82:17
 listed-requires-2 : tie.Need-listed-requires-2
 listed-requires-2 c κs = search needs
 
--- src/lib.rt:83:13
 put-both-requires : tie.Need-put-both-requires
-put-both-requires c κs = ?
+put-both-requires c κs =
+    let last = c .before in
+    let is = lists last in (
+      is .contents,
+      is .read,
+      last .before .before .listed .ensures ∙ ap length (is .gives .first),
+      last .listed2 .ensures ∙ ap length (is .gives .last),
+    )
 
--- src/lib.rt:74:1
 same-length : tie.Need-same-length
 same-length c = search needs
 
--- src/lib.rt:74:1
 returns : tie.Need-returns
-returns c = ?
+returns c =
+    let found = c .before .before .before .before .before in
+    let read = found .before .before in
+    let file = read .before .before .before .args .file .now in
+    rw (printed-refusal file (found .found .given .0 .0) (file-refused file (found .found .given .0 .0) (sym (found .found .given .1) ∙ read .read .ensures)))
+    (c .before .before .put-refused .ensures)
 
--- src/lib.rt:74:1
 same-length-2 : tie.Need-same-length-2
 same-length-2 c = search needs
 
--- src/lib.rt:74:1
 returns-2 : tie.Need-returns-2
 returns-2 c = search needs
 

@@ -15,9 +15,6 @@ use borrow.Author.Needs.{needs}
 use Rattle.listing.proofs.blocks.put_block.Statement.{statement}
 use Rattle.listing.proofs.blocks.put_block.Tie as tie
 use Rattle.listing.proofs.blocks.put_block.Reads as reads
-use Rattle.listing.proofs.blocks.put_block.Lts as lts
-use Rattle.listing.proofs.blocks.put_head.Reads as put-head-reads
-use Rattle.listing.proofs.commands.put_lines.Reads as put-lines-reads
 
 -- the head and the lines of the plan that was made, and that they end inside the longest text
 abbrev start : tie.After-answer → tie.Start
@@ -37,42 +34,34 @@ all-ends c =
     let args = start c .args in
     rw (block-is (start c .pre .2) (c .answer .given .0 .0) (c .answer .given .1) (args .initial) (args .target)) (start c .pre .3)
 
--- src/blocks.rt:54:23
 enum-known-answer : tie.Need-enum-known-answer
 enum-known-answer c = search needs
 
--- src/blocks.rt:55:9
 enum-told : tie.Need-enum-told
 enum-told c = search needs
 
--- src/blocks.rt:55:9
 returns : tie.Need-returns
 returns c = λ kept commands reads. absurd (not-turned reads (c .enum-told .given .1))
 
--- src/blocks.rt:58:9
 put-head-requires : tie.Need-put-head-requires
 put-head-requires c κs =
     let made = c .before .before in ends-first (start made .args .at) (head made) (lines made) (all-ends made)
 
--- src/blocks.rt:59:28
 sub-put-lines : tie.Need-sub-put-lines
 sub-put-lines c =
     let made = c .before .before .before .before .before .before in
     omega (arith, field-inside (start made .pre .2) (made .answer .given .0 .0) (made .answer .given .1))
 
--- src/blocks.rt:59:28
 part-put-lines-start : tie.Need-part-put-lines-start
 part-put-lines-start c =
     let made = c .before .before .before .before .before .before in
     omega (arith, field-inside (start made .pre .2) (made .answer .given .0 .0) (made .answer .given .1))
 
--- src/blocks.rt:59:28
 part-put-lines-end : tie.Need-part-put-lines-end
 part-put-lines-end c =
     let made = c .before .before .before .before .before .before in
     omega (arith, field-inside (start made .pre .2) (made .answer .given .0 .0) (made .answer .given .1))
 
--- src/blocks.rt:59:5
 put-lines-requires : tie.Need-put-lines-requires
 put-lines-requires c κs =
     let headed = c .before .before .before .before in
@@ -81,11 +70,9 @@ put-lines-requires c κs =
       ends-rest (head made) (lines made) (headed .put-head .ensures) (all-ends made),
     )
 
--- src/blocks.rt:38:1
 same-length : tie.Need-same-length
 same-length c = search needs
 
--- src/blocks.rt:38:1
 returns-2 : tie.Need-returns-2
 returns-2 c =
     let headed = c .before .before .before .before .before .before .before in

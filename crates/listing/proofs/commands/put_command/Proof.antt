@@ -1,63 +1,47 @@
 -- `put_command` meets its contract: each case is the definition's own. Assumes nothing.
-use mathlib.Core.List.{[], _∷_}
+use mathlib.Core.List.{_∷_}
 use Rattle.deployment.proofs.Storing.{stored-more}
 use Rattle.listing.specs.Text.{text, spaced, named, commandText}
 use Rattle.listing.proofs.Pieces.{ends-first, ends-rest}
 use borrow.Author.Needs.{needs}
 use Rattle.listing.proofs.commands.put_command.Statement.{statement}
 use Rattle.listing.proofs.commands.put_command.Tie as tie
-use Rattle.listing.proofs.commands.put_command.Reads as reads
-use Rattle.listing.proofs.commands.put_command.Lts as lts
-use Rattle.listing.proofs.words.put_named.Reads as put-named-reads
-use Rattle.listing.proofs.words.put_spaced.Reads as put-spaced-reads
 
--- src/commands.rt:24:22
 enum-known-c : tie.Need-enum-known-c
 enum-known-c c = search needs
 
--- src/commands.rt:24:49
 slice-aggregate-put-named : tie.Need-slice-aggregate-put-named
 slice-aggregate-put-named c = search needs
 
--- src/commands.rt:24:57
 cast-put-named : tie.Need-cast-put-named
 cast-put-named c = search needs
 
--- src/commands.rt:24:28
 put-named-requires : tie.Need-put-named-requires
 unfolding commandText named text
 put-named-requires c κs = rw (c .before .before .before .c .given .1) at (c .before .before .before .before .before .before .pre)
 
--- src/commands.rt:25:26
 enum-known-c-2 : tie.Need-enum-known-c-2
 enum-known-c-2 c = search needs
 
--- src/commands.rt:25:53
 slice-aggregate-put-named-2 : tie.Need-slice-aggregate-put-named-2
 slice-aggregate-put-named-2 c = search needs
 
--- src/commands.rt:25:61
 cast-put-named-2 : tie.Need-cast-put-named-2
 cast-put-named-2 c = search needs
 
--- src/commands.rt:25:32
 put-named-requires-2 : tie.Need-put-named-requires-2
 unfolding commandText named text
 put-named-requires-2 c κs = rw (c .before .before .before .c2 .given .1) at (c .before .before .before .before .before .before .pre)
 
--- src/commands.rt:26:22
 enum-known-c-3 : tie.Need-enum-known-c-3
 enum-known-c-3 c = search needs
 
--- src/commands.rt:27:45
 slice-aggregate-put-named-3 : tie.Need-slice-aggregate-put-named-3
 slice-aggregate-put-named-3 c = search needs
 
--- src/commands.rt:27:53
 cast-put-named-3 : tie.Need-cast-put-named-3
 cast-put-named-3 c = search needs
 
--- src/commands.rt:27:17
 put-named-requires-3 : tie.Need-put-named-requires-3
 unfolding commandText named text
 put-named-requires-3 c κs =
@@ -66,11 +50,9 @@ put-named-requires-3 c κs =
     let numbers = known .c3 .given .0 in
     ends-first (start .args .at) (105 ∷ 110 ∷ 115 ∷ spaced (numbers .0)) (spaced (numbers .1 .0)) (rw (known .c3 .given .1) at (start .pre))
 
--- src/commands.rt:28:37
 cast-put-spaced : tie.Need-cast-put-spaced
 cast-put-spaced c = search needs
 
--- src/commands.rt:28:13
 put-spaced-requires : tie.Need-put-spaced-requires
 unfolding commandText named text
 put-spaced-requires c κs =
@@ -81,36 +63,28 @@ put-spaced-requires c κs =
     ends-rest (105 ∷ 110 ∷ 115 ∷ spaced (numbers .0)) (spaced (numbers .1 .0)) (called .put-named3 .ensures)
     (rw (known .c3 .given .1) at (start .pre))
 
--- src/commands.rt:30:27
 enum-known-c-4 : tie.Need-enum-known-c-4
 enum-known-c-4 c = search needs
 
--- src/commands.rt:30:54
 slice-aggregate-put-named-4 : tie.Need-slice-aggregate-put-named-4
 slice-aggregate-put-named-4 c = search needs
 
--- src/commands.rt:30:62
 cast-put-named-4 : tie.Need-cast-put-named-4
 cast-put-named-4 c = search needs
 
--- src/commands.rt:30:33
 put-named-requires-4 : tie.Need-put-named-requires-4
 unfolding commandText named text
 put-named-requires-4 c κs = rw (c .before .before .before .c4 .given .1) at (c .before .before .before .before .before .before .pre)
 
--- src/commands.rt:31:22
 enum-known-c-5 : tie.Need-enum-known-c-5
 enum-known-c-5 c = search needs
 
--- src/commands.rt:32:45
 slice-aggregate-put-named-5 : tie.Need-slice-aggregate-put-named-5
 slice-aggregate-put-named-5 c = search needs
 
--- src/commands.rt:32:53
 cast-put-named-5 : tie.Need-cast-put-named-5
 cast-put-named-5 c = search needs
 
--- src/commands.rt:32:17
 put-named-requires-5 : tie.Need-put-named-requires-5
 unfolding commandText named text
 put-named-requires-5 c κs =
@@ -119,11 +93,9 @@ put-named-requires-5 c κs =
     let numbers = known .c5 .given .0 in
     ends-first (start .args .at) (109 ∷ 111 ∷ 118 ∷ spaced (numbers .0)) (spaced (numbers .1 .0)) (rw (known .c5 .given .1) at (start .pre))
 
--- src/commands.rt:33:37
 cast-put-spaced-2 : tie.Need-cast-put-spaced-2
 cast-put-spaced-2 c = search needs
 
--- src/commands.rt:33:13
 put-spaced-requires-2 : tie.Need-put-spaced-requires-2
 unfolding commandText named text
 put-spaced-requires-2 c κs =
@@ -134,49 +106,39 @@ put-spaced-requires-2 c κs =
     ends-rest (109 ∷ 111 ∷ 118 ∷ spaced (numbers .0)) (spaced (numbers .1 .0)) (called .put-named5 .ensures)
     (rw (known .c5 .given .1) at (start .pre))
 
--- src/commands.rt:19:1
 same-length : tie.Need-same-length
 same-length c = search needs
 
--- src/commands.rt:19:1
 returns : tie.Need-returns
 unfolding commandText named text
 returns c = rw (c .before .before .before .before .before .before .c .given .1) (c .before .before .put-named .ensures)
 
--- src/commands.rt:19:1
 same-length-2 : tie.Need-same-length-2
 same-length-2 c = search needs
 
--- src/commands.rt:19:1
 returns-2 : tie.Need-returns-2
 unfolding commandText named text
 returns-2 c = rw (c .before .before .before .before .before .before .c2 .given .1) (c .before .before .put-named2 .ensures)
 
--- src/commands.rt:19:1
 same-length-3 : tie.Need-same-length-3
 same-length-3 c = search needs
 
--- src/commands.rt:19:1
 returns-3 : tie.Need-returns-3
 unfolding commandText named text
 returns-3 c =
     let called = c .before .before .before .before .before .before in
     rw (called .before .before .before .before .c3 .given .1) (stored-more (called .put-named3 .ensures) (c .before .before .put-spaced .ensures))
 
--- src/commands.rt:19:1
 same-length-4 : tie.Need-same-length-4
 same-length-4 c = search needs
 
--- src/commands.rt:19:1
 returns-4 : tie.Need-returns-4
 unfolding commandText named text
 returns-4 c = rw (c .before .before .before .before .before .before .c4 .given .1) (c .before .before .put-named4 .ensures)
 
--- src/commands.rt:19:1
 same-length-5 : tie.Need-same-length-5
 same-length-5 c = search needs
 
--- src/commands.rt:19:1
 returns-5 : tie.Need-returns-5
 unfolding commandText named text
 returns-5 c =

@@ -7,11 +7,6 @@ use Rattle.listing.proofs.Pieces.{ends-first, ends-rest}
 use borrow.Author.Needs.{needs}
 use Rattle.listing.proofs.commands.put_line.Statement.{statement}
 use Rattle.listing.proofs.commands.put_line.Tie as tie
-use Rattle.listing.proofs.commands.put_line.Reads as reads
-use Rattle.listing.proofs.commands.put_line.Lts as lts
-use Rattle.listing.proofs.commands.put_command.Reads as put-command-reads
-use Rattle.listing.proofs.words.put_number.Reads as put-number-reads
-use Rattle.listing.proofs.words.put_word.Reads as put-word-reads
 
 -- Behind each piece that is put, and before all of them.
 abbrev start : tie.After-put-number → tie.Start
@@ -30,45 +25,37 @@ behind-step c = ends-rest (decimal (start c .args .step)) (32 ∷ (commandText (
 behind-blank : (c : tie.After-put-word) → Ends (c .put-word .result) (commandText (start (at-step c) .args .c) ++ (10 ∷ []))
 behind-blank c = ends-rest (32 ∷ []) (commandText (start (at-step c) .args .c) ++ (10 ∷ [])) (c .put-word .ensures) (behind-step (at-step c))
 
--- src/commands.rt:43:9
 put-number-requires : tie.Need-put-number-requires
 unfolding lineText
 put-number-requires c κs =
     let begun = c .before .before in
     ends-first (begun .args .at) (decimal (begun .args .step)) (text " " ++ (commandText (begun .args .c) ++ text "\n")) (begun .pre)
 
--- src/commands.rt:44:34
 slice-aggregate-put-word : tie.Need-slice-aggregate-put-word
 slice-aggregate-put-word c = search needs
 
--- src/commands.rt:44:5
 put-word-requires : tie.Need-put-word-requires
 put-word-requires c κs =
     let step = c .before .before .before .before in
     ends-first (step .put-number .result) (32 ∷ []) (commandText (start step .args .c) ++ (10 ∷ [])) (behind-step step)
 
--- src/commands.rt:45:5
 put-command-requires : tie.Need-put-command-requires
 put-command-requires c κs =
     let blank = c .before .before .before in
     ends-first (blank .put-word .result) (commandText (start (at-step blank) .args .c)) (10 ∷ []) (behind-blank blank)
 
--- src/commands.rt:46:27
 slice-aggregate-put-word-2 : tie.Need-slice-aggregate-put-word-2
 slice-aggregate-put-word-2 c = search needs
 
--- src/commands.rt:46:5
 put-word-requires-2 : tie.Need-put-word-requires-2
 put-word-requires-2 c κs =
     let command = c .before .before .before .before in
     let blank = at-blank command in
     ends-rest (commandText (start (at-step blank) .args .c)) (10 ∷ []) (command .put-command .ensures) (behind-blank blank)
 
--- src/commands.rt:39:1
 same-length : tie.Need-same-length
 same-length c = search needs
 
--- src/commands.rt:39:1
 returns : tie.Need-returns
 unfolding lineText text
 returns c =

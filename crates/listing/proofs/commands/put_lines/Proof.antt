@@ -14,11 +14,6 @@ use Rattle.replay.proofs.Scripts.{script-count, never-wrong}
 use Rattle.listing.proofs.Lines.{Lines, next-command, no-lines, line-ends, one-line, all-lines}
 use Rattle.listing.proofs.commands.put_lines.Statement.{statement}
 use Rattle.listing.proofs.commands.put_lines.Tie as tie
-use Rattle.listing.proofs.commands.put_lines.Reads as reads
-use Rattle.listing.proofs.commands.put_lines.Lts as lts
-use Rattle.deployment.proofs.command_at.Reads as command-at-reads
-use Rattle.deployment.proofs.commands.Reads as commands-reads
-use Rattle.listing.proofs.commands.put_line.Reads as put-line-reads
 
 abbrev Inv-loop : tie.InvT-loop
 Inv-loop place₀ at script count next₀ k₀ place next k = Lines (commandsOf (scriptOf script)) place₀ at place next k
@@ -41,32 +36,25 @@ next-is c =
     next-command (start .args .script .now) (start .pre .0) (called .before .before .loop .k) (c .d .given .0 .0) (inside (called .before))
     (sym (c .d .given .1) ∙ called .command-at .ensures)
 
--- src/commands.rt:56:9
 commands-requires : tie.Need-commands-requires Inv-loop μ-loop
 commands-requires c κs = search needs
 
--- src/commands.rt:59:5
 loop-holds : tie.Need-loop-holds Inv-loop μ-loop
 loop-holds c =
     let args = c .before .before .before .args in no-lines (commandsOf (scriptOf (args .script .now))) (args .place .now) (args .at)
 
--- src/commands.rt:60:13
 command-at-requires : tie.Need-command-at-requires Inv-loop μ-loop
 command-at-requires c κs = search needs
 
--- src/commands.rt:61:25
 enum-known-d : tie.Need-enum-known-d Inv-loop μ-loop
 enum-known-d c = search needs
 
--- src/commands.rt:62:13
 enum-told : tie.Need-enum-told Inv-loop μ-loop
 enum-told c = search needs
 
--- src/commands.rt:62:13
 same-length : tie.Need-same-length Inv-loop μ-loop
 same-length c = stored-long (c .before .before .before .before .loop .inv .stored)
 
--- src/commands.rt:62:13
 returns : tie.Need-returns Inv-loop μ-loop
 returns c =
     let called = c .before .before in
@@ -74,11 +62,9 @@ returns c =
     absurd (never-wrong (start .args .script .now) (start .pre .0) (called .before .before .loop .k) (inside (called .before))
     (sym (c .enum-told .given .1) ∙ called .command-at .ensures))
 
--- src/commands.rt:64:9
 add-k : tie.Need-add-k Inv-loop μ-loop
 add-k c = search needs
 
--- src/commands.rt:65:9
 put-line-requires : tie.Need-put-line-requires Inv-loop μ-loop
 put-line-requires c κs =
     let read = c .before .before in
@@ -86,11 +72,9 @@ put-line-requires c κs =
     let start = now .before .before .before .before in
     line-ends (commandsOf (scriptOf (start .args .script .now))) (now .loop .k) (now .loop .inv) (read .d .given .0 .0) (next-is read) (start .pre .1)
 
--- src/commands.rt:59:5
 loop-less : tie.Need-loop-less Inv-loop μ-loop
 loop-less c = search needs
 
--- src/commands.rt:59:5
 loop-again : tie.Need-loop-again Inv-loop μ-loop
 loop-again c =
     let read = c .before .before .before .before .before in
@@ -99,11 +83,9 @@ loop-again c =
     one-line (commandsOf (scriptOf (start .args .script .now))) (now .loop .k) (now .loop .inv) (read .d .given .0 .0) (next-is read)
     (c .before .before .put-line .ensures)
 
--- src/commands.rt:50:1
 same-length-2 : tie.Need-same-length-2 Inv-loop μ-loop
 same-length-2 c = stored-long (c .before .loop .inv .stored)
 
--- src/commands.rt:50:1
 returns-2 : tie.Need-returns-2 Inv-loop μ-loop
 returns-2 c =
     let now = c .before in

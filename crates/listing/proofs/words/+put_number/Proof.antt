@@ -63,8 +63,7 @@ put-number-put-number-requires : (t : ℕ) → put-number-lts.Need-put-number-re
 put-number-put-number-requires t c κs =
     let start = c .before .before .before in
     let n = start .args .n in
-    let more = c .before .if1 .left in
-    (
+    let more = c .before .if1 .left in (
       omega (arith, start .pre .0),
       ends-first (start .args .at) (decimal (n / 10)) ((48 + n % 10) ∷ []) (rw (decimal-more n more) at (start .pre .1)),
     )

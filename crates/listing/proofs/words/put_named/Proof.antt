@@ -5,29 +5,21 @@ use Rattle.listing.proofs.Pieces.{ends-first, ends-rest}
 use borrow.Author.Needs.{needs}
 use Rattle.listing.proofs.words.put_named.Statement.{statement}
 use Rattle.listing.proofs.words.put_named.Tie as tie
-use Rattle.listing.proofs.words.put_named.Reads as reads
-use Rattle.listing.proofs.words.put_named.Lts as lts
-use Rattle.listing.proofs.words.put_spaced.Reads as put-spaced-reads
-use Rattle.listing.proofs.words.put_word.Reads as put-word-reads
 
--- src/words.rt:62:9
 put-word-requires : tie.Need-put-word-requires
 put-word-requires c κs =
     let start = c .before .before .before in
     ends-first (start .args .at) (start .args .word .now) (spaced (start .args .n)) (start .pre)
 
--- src/words.rt:63:5
 put-spaced-requires : tie.Need-put-spaced-requires
 put-spaced-requires c κs =
     let called = c .before .before .before in
     let start = called .before .before .before .before in
     ends-rest (start .args .word .now) (spaced (start .args .n)) (called .put-word .ensures) (start .pre)
 
--- src/words.rt:58:1
 same-length : tie.Need-same-length
 same-length c = search needs
 
--- src/words.rt:58:1
 returns : tie.Need-returns
 returns c = stored-more (c .before .before .before .before .before .before .put-word .ensures) (c .before .before .put-spaced .ensures)
 

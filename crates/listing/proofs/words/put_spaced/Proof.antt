@@ -6,23 +6,16 @@ use Rattle.listing.proofs.Pieces.{ends-first, ends-rest}
 use borrow.Author.Needs.{needs}
 use Rattle.listing.proofs.words.put_spaced.Statement.{statement}
 use Rattle.listing.proofs.words.put_spaced.Tie as tie
-use Rattle.listing.proofs.words.put_spaced.Reads as reads
-use Rattle.listing.proofs.words.put_spaced.Lts as lts
-use Rattle.listing.proofs.words.put_number.Reads as put-number-reads
-use Rattle.listing.proofs.words.put_word.Reads as put-word-reads
 
--- src/words.rt:53:36
 slice-aggregate-put-word : tie.Need-slice-aggregate-put-word
 slice-aggregate-put-word c = search needs
 
--- src/words.rt:53:9
 put-word-requires : tie.Need-put-word-requires
 unfolding spaced text
 put-word-requires c κs =
     let start = c .before .before .before in
     ends-first (start .args .at) (32 ∷ []) (decimal (start .args .n)) (start .pre)
 
--- src/words.rt:54:5
 put-number-requires : tie.Need-put-number-requires
 unfolding spaced text
 put-number-requires c κs =
@@ -30,11 +23,9 @@ put-number-requires c κs =
     let start = called .before .before .before .before in
     ends-rest (32 ∷ []) (decimal (start .args .n)) (called .put-word .ensures) (start .pre)
 
--- src/words.rt:49:1
 same-length : tie.Need-same-length
 same-length c = search needs
 
--- src/words.rt:49:1
 returns : tie.Need-returns
 unfolding spaced text
 returns c = stored-more (c .before .before .before .before .before .before .put-word .ensures) (c .before .before .put-number .ensures)

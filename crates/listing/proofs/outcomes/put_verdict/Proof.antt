@@ -4,52 +4,41 @@ use mathlib.Core.List.{[], _∷_}
 use lib.ListN.{length-append}
 use Rattle.policy.specs.Judge.{verdictNumbers}
 use Rattle.deployment.proofs.Storing.{stored-more}
+use Rattle.listing.proofs.Lengths.{verdict-short}
 use Rattle.listing.specs.Text.{text, spacedAll, verdictText}
 use borrow.Author.Needs.{needs}
-use Rattle.listing.proofs.answers.put_verdict.Statement.{statement}
-use Rattle.listing.proofs.answers.put_verdict.Tie as tie
-use Rattle.listing.proofs.answers.put_verdict.Reads as reads
-use Rattle.listing.proofs.answers.put_verdict.Lts as lts
-use Rattle.listing.proofs.answers.put_values.Reads as put-values-reads
-use Rattle.listing.proofs.words.put_word.Reads as put-word-reads
+use Rattle.listing.proofs.outcomes.put_verdict.Statement.{statement}
+use Rattle.listing.proofs.outcomes.put_verdict.Tie as tie
 
--- src/answers.rt:74:39
 slice-aggregate-put-word : tie.Need-slice-aggregate-put-word
 slice-aggregate-put-word c = search needs
 
--- src/answers.rt:74:9
 put-word-requires : tie.Need-put-word-requires
 put-word-requires c κs = search needs
 
--- src/answers.rt:75:5
 put-values-requires : tie.Need-put-values-requires
 put-values-requires c κs = omega (arith, c .before .before .before .put-word .ensures .end)
 
--- src/answers.rt:76:27
 slice-aggregate-put-word-2 : tie.Need-slice-aggregate-put-word-2
 slice-aggregate-put-word-2 c = search needs
 
--- src/answers.rt:76:5
 put-word-requires-2 : tie.Need-put-word-requires-2
 put-word-requires-2 c κs =
     let values = c .before .before .before .before in
     let word = values .before .before .before .before in
     omega (arith, word .put-word .ensures .end, values .put-values .ensures .put .end, values .put-values .ensures .short)
 
--- src/answers.rt:71:1
 same-length : tie.Need-same-length
 same-length c = search needs
 
--- src/answers.rt:71:1
 returns : tie.Need-returns
 unfolding verdictText text
 returns c =
     let values = c .before .before .before .before .before .before .before in
     let word = values .before .before .before .before in
-    let numbers = verdictNumbers (word .before .before .before .before .args .v) in
     record {
       put = stored-more (word .put-word .ensures) (stored-more (values .put-values .ensures .put) (c .before .before .put-word2 .ensures));
-      ends = omega (arith, length-append (spacedAll numbers) (10 ∷ []), values .put-values .ensures .short);
+      ends = omega (arith, verdict-short (word .before .before .before .before .args .v) (values .put-values .ensures .short));
     }
 
 pub put-verdict-spec : {M : Type 1} → statement M

@@ -1,19 +1,11 @@
 -- `put_why` meets its contract: the word and the number, the position and the end of the line, one behind the other. Assumes nothing.
 use native.Mathlib.Omega.{arith}
-use Prim.Native.Nat.{_≤_}
-use lib.ListN.{length}
 use Rattle.deployment.proofs.Storing.{stored-more}
 use Rattle.listing.specs.Text.{text, named, refusedText}
-use Rattle.listing.specs.Printing.{most-text}
-use Rattle.listing.proofs.Lengths.{spaced-short, length-refused}
+use Rattle.listing.proofs.Lengths.{spaced-short, refused-short}
 use borrow.Author.Needs.{needs}
-use Rattle.listing.proofs.answers.put_why.Statement.{statement}
-use Rattle.listing.proofs.answers.put_why.Tie as tie
-use Rattle.listing.proofs.answers.put_why.Reads as reads
-use Rattle.listing.proofs.answers.put_why.Lts as lts
-use Rattle.deployment.proofs.Why.number.Reads as number-reads
-use Rattle.listing.proofs.words.put_named.Reads as put-named-reads
-use Rattle.listing.proofs.words.put_word.Reads as put-word-reads
+use Rattle.listing.proofs.outcomes.put_why.Statement.{statement}
+use Rattle.listing.proofs.outcomes.put_why.Tie as tie
 
 -- before the first piece, and behind it
 abbrev start : tie.After-put-named → tie.Start
@@ -22,48 +14,29 @@ start c = c .before .before .before .before .before
 abbrev at-why : tie.After-put-named2 → tie.After-put-named
 at-why c = c .before .before .before .before .before
 
-short : (c : tie.After-put-named) → length (refusedText (record { why = start c .args .why; at = start c .args .at })) ≤ most-text
-short c =
-    let at = start c .args .at in
-    let n = c .before .number in
-    omega (
-      arith,
-      length-refused (record { why = start c .args .why; at = at }),
-      rw (n .ensures) at (spaced-short (n .result) (omega arith)),
-      spaced-short at (omega (arith, start c .fits .at)),
-    )
-
--- src/answers.rt:29:40
 slice-aggregate-put-named : tie.Need-slice-aggregate-put-named
 slice-aggregate-put-named c = search needs
 
--- src/answers.rt:29:52
 number-requires : tie.Need-number-requires
 number-requires c κs = search needs
 
--- src/answers.rt:29:52
 cast-put-named : tie.Need-cast-put-named
 cast-put-named c = search needs
 
--- src/answers.rt:29:9
 put-named-requires : tie.Need-put-named-requires
 put-named-requires c κs = omega (arith, spaced-short (c .number .result) (omega arith))
 
--- src/answers.rt:30:35
 slice-aggregate-put-named-2 : tie.Need-slice-aggregate-put-named-2
 slice-aggregate-put-named-2 c = search needs
 
--- src/answers.rt:30:5
 put-named-requires-2 : tie.Need-put-named-requires-2
 put-named-requires-2 c κs =
     let why = c .before .before .before .before in
     omega (arith, why .put-named .ensures .end, spaced-short (why .before .number .result) (omega arith), spaced-short (start why .args .at) (omega (arith, start why .fits .at)))
 
--- src/answers.rt:31:27
 slice-aggregate-put-word : tie.Need-slice-aggregate-put-word
 slice-aggregate-put-word c = search needs
 
--- src/answers.rt:31:5
 put-word-requires : tie.Need-put-word-requires
 put-word-requires c κs =
     let position = c .before .before .before .before in
@@ -76,11 +49,9 @@ put-word-requires c κs =
       spaced-short (start why .args .at) (omega (arith, start why .fits .at)),
     )
 
--- src/answers.rt:26:1
 same-length : tie.Need-same-length
 same-length c = search needs
 
--- src/answers.rt:26:1
 returns : tie.Need-returns
 unfolding refusedText named text
 returns c =
@@ -89,7 +60,7 @@ returns c =
     rw (← why .before .number .ensures)
     (record {
       put = stored-more (why .put-named .ensures) (stored-more (position .put-named2 .ensures) (c .before .before .put-word .ensures));
-      ends = rw (why .before .number .ensures) (short why);
+      ends = rw (why .before .number .ensures) (omega (arith, refused-short (record { why = start why .args .why; at = start why .args .at }) (omega (arith, start why .fits .at))));
     })
 
 pub put-why-spec : {M : Type 1} → statement M

@@ -1,4 +1,4 @@
-// Answers of one line: a refusal and a verdict, from the start of the place on.
+// Outcomes of one line: a refusal and a verdict, from the start of the place on.
 
 ghost use mathlib.Core.Path.{_≡_};
 ghost use Rattle.policy.specs.Command.{faultNumber};

@@ -10,12 +10,8 @@ use Rattle.listing.specs.Printing.{Ends}
 use Rattle.listing.proofs.Lengths.{one-more, none-yet}
 use Rattle.listing.proofs.Pieces.{all-first, all-rest, all-more, all-last}
 use borrow.Author.Needs.{needs}
-use Rattle.listing.proofs.answers.put_values.Statement.{statement}
-use Rattle.listing.proofs.answers.put_values.Tie as tie
-use Rattle.listing.proofs.answers.put_values.Reads as reads
-use Rattle.listing.proofs.answers.put_values.Lts as lts
-use Rattle.listing.proofs.answers.fault_number.Reads as fault-number-reads
-use Rattle.listing.proofs.words.put_spaced.Reads as put-spaced-reads
+use Rattle.listing.proofs.outcomes.put_values.Statement.{statement}
+use Rattle.listing.proofs.outcomes.put_values.Tie as tie
 
 -- The numbers of each case that has values.
 broken : (c : tie.After-fault-number)
@@ -53,34 +49,27 @@ unordered-ends : (c : tie.After-known-told3)
     → Ends (c .before .before .before .before .args .at) (spacedAll (30 ∷ c .before .v3 .given .0 .0 ∷ c .before .v3 .given .0 .1 .0 ∷ []))
 unordered-ends c = omega (arith, unordered c, c .before .before .before .before .pre)
 
--- src/answers.rt:52:25
 enum-known-v : tie.Need-enum-known-v
 enum-known-v c = search needs
 
--- src/answers.rt:53:46
 fault-number-requires : tie.Need-fault-number-requires
 fault-number-requires c κs = search needs
 
--- src/answers.rt:53:17
 put-spaced-requires : tie.Need-put-spaced-requires
 put-spaced-requires c κs = all-first _ (c .fault-number .result) (c .before .before .before .v .given .0 .1 .0 ∷ []) (broken-ends c)
 
--- src/answers.rt:54:13
 put-spaced-requires-2 : tie.Need-put-spaced-requires-2
 put-spaced-requires-2 c κs =
     let first = c .before .before .before in
     let step = first .before .before .before .before .v .given .0 .1 .0 in
     all-first _ step [] (all-rest (first .before .fault-number .result) (step ∷ []) (first .put-spaced .ensures) (broken-ends (first .before)))
 
--- src/answers.rt:56:28
 enum-known-v-2 : tie.Need-enum-known-v-2
 enum-known-v-2 c = search needs
 
--- src/answers.rt:57:17
 put-spaced-requires-3 : tie.Need-put-spaced-requires-3
 put-spaced-requires-3 c κs = let told = c .before in all-first _ 24 (told .before .v2 .given .0 .0 ∷ []) (elsewhere-ends told)
 
--- src/answers.rt:58:13
 put-spaced-requires-4 : tie.Need-put-spaced-requires-4
 put-spaced-requires-4 c κs =
     let first = c .before .before .before in
@@ -88,17 +77,14 @@ put-spaced-requires-4 c κs =
     let commands = told .before .v2 .given .0 .0 in
     all-first _ commands [] (all-rest 24 (commands ∷ []) (first .put-spaced3 .ensures) (elsewhere-ends told))
 
--- src/answers.rt:60:28
 enum-known-v-3 : tie.Need-enum-known-v-3
 enum-known-v-3 c = search needs
 
--- src/answers.rt:61:17
 put-spaced-requires-5 : tie.Need-put-spaced-requires-5
 put-spaced-requires-5 c κs =
     let told = c .before in
     all-first _ 30 (told .before .v3 .given .0 .0 ∷ told .before .v3 .given .0 .1 .0 ∷ []) (unordered-ends told)
 
--- src/answers.rt:62:13
 put-spaced-requires-6 : tie.Need-put-spaced-requires-6
 put-spaced-requires-6 c κs =
     let first = c .before .before .before in
@@ -107,7 +93,6 @@ put-spaced-requires-6 c κs =
     let rule = told .before .v3 .given .0 .1 .0 in
     all-first _ step (rule ∷ []) (all-rest 30 (step ∷ rule ∷ []) (first .put-spaced5 .ensures) (unordered-ends told))
 
--- src/answers.rt:63:13
 put-spaced-requires-7 : tie.Need-put-spaced-requires-7
 put-spaced-requires-7 c κs =
     let second = c .before .before .before in
@@ -119,27 +104,21 @@ put-spaced-requires-7 c κs =
     (all-rest step (rule ∷ []) (second .put-spaced6 .ensures)
     (all-rest 30 (step ∷ rule ∷ []) (first .put-spaced5 .ensures) (unordered-ends told)))
 
--- src/answers.rt:65:40
 enum-told : tie.Need-enum-told
 enum-told c = search needs
 
--- src/answers.rt:65:29
 put-spaced-requires-8 : tie.Need-put-spaced-requires-8
 put-spaced-requires-8 c κs = all-first _ 31 [] (omega (arith, one-more 31 [] 0 (omega arith) none-yet, c .before .before .before .before .pre))
 
--- src/answers.rt:66:37
 enum-told-2 : tie.Need-enum-told-2
 enum-told-2 c = search needs
 
--- src/answers.rt:66:26
 put-spaced-requires-9 : tie.Need-put-spaced-requires-9
 put-spaced-requires-9 c κs = all-first _ 32 [] (omega (arith, one-more 32 [] 0 (omega arith) none-yet, c .before .before .before .before .pre))
 
--- src/answers.rt:47:1
 same-length : tie.Need-same-length
 same-length c = search needs
 
--- src/answers.rt:47:1
 returns : tie.Need-returns
 unfolding verdictNumbers
 returns c =
@@ -153,11 +132,9 @@ returns c =
       short = omega (arith, broken numbered);
     })
 
--- src/answers.rt:47:1
 same-length-2 : tie.Need-same-length-2
 same-length-2 c = search needs
 
--- src/answers.rt:47:1
 returns-2 : tie.Need-returns-2
 unfolding verdictNumbers
 returns-2 c =
@@ -170,11 +147,9 @@ returns-2 c =
       short = omega (arith, elsewhere told);
     })
 
--- src/answers.rt:47:1
 same-length-3 : tie.Need-same-length-3
 same-length-3 c = search needs
 
--- src/answers.rt:47:1
 returns-3 : tie.Need-returns-3
 unfolding verdictNumbers
 returns-3 c =
@@ -190,22 +165,18 @@ returns-3 c =
       short = unordered told;
     })
 
--- src/answers.rt:47:1
 same-length-4 : tie.Need-same-length-4
 same-length-4 c = search needs
 
--- src/answers.rt:47:1
 returns-4 : tie.Need-returns-4
 unfolding verdictNumbers
 returns-4 c =
     rw (c .before .before .before .before .enum-told .given .1)
     (record { put = all-last 31 (c .before .before .put-spaced8 .ensures); short = omega (arith, one-more 31 [] 0 (omega arith) none-yet) })
 
--- src/answers.rt:47:1
 same-length-5 : tie.Need-same-length-5
 same-length-5 c = search needs
 
--- src/answers.rt:47:1
 returns-5 : tie.Need-returns-5
 unfolding verdictNumbers
 returns-5 c =
