@@ -61,8 +61,8 @@ pub fn put_lines(place: &mut [u8], at: usize, script: &[u8]) -> usize
         let Decoded::Is(c) = d else {
             return next;
         };
+        next = put_line(place, next, k + 1, c);
         k += 1;
-        next = put_line(place, next, k, c);
     }
     next
 }

@@ -35,7 +35,8 @@ pub fn put_refused(place: &mut [u8], refusal: Refusal) -> usize
 fn put_why(place: &mut [u8], why: Why, at: usize) -> usize
     ensures { λ next. ⌜ Whole (now (place .entry)) (refusedText (record { why = why; at = at })) (now (place .exit)) next ⌝ }
 {
-    let mut next = put_named(place, 0, b"refused", why.number() as usize);
+    let number = why.number() as usize;
+    let mut next = put_named(place, 0, b"refused", number);
     next = put_named(place, next, b" at", at);
     put_word(place, next, b"\n")
 }

@@ -62,8 +62,8 @@ returns c =
     absurd (never-wrong (start .args .script .now) (start .pre .0) (called .before .before .loop .k) (inside (called .before))
     (sym (c .enum-told .given .1) ∙ called .command-at .ensures))
 
-add-k : tie.Need-add-k Inv-loop μ-loop
-add-k c = search needs
+add-put-line : tie.Need-add-put-line Inv-loop μ-loop
+add-put-line c = search needs
 
 put-line-requires : tie.Need-put-line-requires Inv-loop μ-loop
 put-line-requires c κs =
@@ -71,6 +71,9 @@ put-line-requires c κs =
     let now = read .before .before .before .before in
     let start = now .before .before .before .before in
     line-ends (commandsOf (scriptOf (start .args .script .now))) (now .loop .k) (now .loop .inv) (read .d .given .0 .0) (next-is read) (start .pre .1)
+
+add-k : tie.Need-add-k Inv-loop μ-loop
+add-k c = search needs
 
 loop-less : tie.Need-loop-less Inv-loop μ-loop
 loop-less c = search needs
@@ -106,8 +109,9 @@ put-lines-spec =
     enum-told
     same-length
     returns
-    add-k
+    add-put-line
     put-line-requires
+    add-k
     loop-less
     loop-again
     same-length-2

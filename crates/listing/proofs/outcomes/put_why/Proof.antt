@@ -14,17 +14,17 @@ start c = c .before .before .before .before .before
 abbrev at-why : tie.After-put-named2 → tie.After-put-named
 at-why c = c .before .before .before .before .before
 
-slice-aggregate-put-named : tie.Need-slice-aggregate-put-named
-slice-aggregate-put-named c = search needs
-
 number-requires : tie.Need-number-requires
 number-requires c κs = search needs
 
-cast-put-named : tie.Need-cast-put-named
-cast-put-named c = search needs
+cast-number : tie.Need-cast-number
+cast-number c = search needs
+
+slice-aggregate-put-named : tie.Need-slice-aggregate-put-named
+slice-aggregate-put-named c = search needs
 
 put-named-requires : tie.Need-put-named-requires
-put-named-requires c κs = omega (arith, spaced-short (c .number .result) (omega arith))
+put-named-requires c κs = omega (arith, spaced-short (c .before .before .number .result) (omega arith))
 
 slice-aggregate-put-named-2 : tie.Need-slice-aggregate-put-named-2
 slice-aggregate-put-named-2 c = search needs
@@ -32,7 +32,7 @@ slice-aggregate-put-named-2 c = search needs
 put-named-requires-2 : tie.Need-put-named-requires-2
 put-named-requires-2 c κs =
     let why = c .before .before .before .before in
-    omega (arith, why .put-named .ensures .end, spaced-short (why .before .number .result) (omega arith), spaced-short (start why .args .at) (omega (arith, start why .fits .at)))
+    omega (arith, why .put-named .ensures .end, spaced-short (why .before .before .before .number .result) (omega arith), spaced-short (start why .args .at) (omega (arith, start why .fits .at)))
 
 slice-aggregate-put-word : tie.Need-slice-aggregate-put-word
 slice-aggregate-put-word c = search needs
@@ -45,7 +45,7 @@ put-word-requires c κs =
       arith,
       position .put-named2 .ensures .end,
       why .put-named .ensures .end,
-      spaced-short (why .before .number .result) (omega arith),
+      spaced-short (why .before .before .before .number .result) (omega arith),
       spaced-short (start why .args .at) (omega (arith, start why .fits .at)),
     )
 
@@ -57,19 +57,19 @@ unfolding refusedText named text
 returns c =
     let position = c .before .before .before .before .before .before .before in
     let why = at-why position in
-    rw (← why .before .number .ensures)
+    rw (← why .before .before .before .number .ensures)
     (record {
       put = stored-more (why .put-named .ensures) (stored-more (position .put-named2 .ensures) (c .before .before .put-word .ensures));
-      ends = rw (why .before .number .ensures) (omega (arith, refused-short (record { why = start why .args .why; at = start why .args .at }) (omega (arith, start why .fits .at))));
+      ends = rw (why .before .before .before .number .ensures) (omega (arith, refused-short (record { why = start why .args .why; at = start why .args .at }) (omega (arith, start why .fits .at))));
     })
 
 pub put-why-spec : {M : Type 1} → statement M
 put-why-spec =
     tie.close
     (tie.spec
-    slice-aggregate-put-named
     number-requires
-    cast-put-named
+    cast-number
+    slice-aggregate-put-named
     put-named-requires
     slice-aggregate-put-named-2
     put-named-requires-2
