@@ -1,6 +1,7 @@
 -- What the printers need to know: where a text ends, and what is planned. Assumes nothing.
 use Prim.Native.Nat.{ℕ, _+_, _-_, _≤_}
 use mathlib.Core.Path.{_≡_}
+use mathlib.Core.Logic.{_⊎_}
 use mathlib.Core.List.{List}
 use mathlib.Core.Option.{some}
 use lib.ListN.{length}
@@ -26,6 +27,10 @@ Ends at bytes = at + length bytes ≤ most-text
 pub record Whole (before bytes after : List ℕ) (next : ℕ) : Type 0 where
   pub put : Stored before 0 bytes after next
   pub ends : length bytes ≤ most-text
+
+-- the bytes that a text needs; 0 will do where there is room for every text
+abbrev pub Needed : List ℕ → ℕ → ℕ → Type 0
+Needed text room n = (n ≡ length text) ⊎ ((n ≡ 0) × (most-text ≤ room))
 
 -- the number of a verdict and at most two values, of twenty digits each behind a blank
 abbrev pub most-values : ℕ

@@ -2,19 +2,17 @@
 
 ghost use mathlib.Core.Path.{_≡_};
 ghost use mathlib.Core.List.{List};
-ghost use Prim.Native.Nat.{_≤_};
-ghost use lib.ListN.{length, take};
+ghost use lib.ListN.{length};
 ghost use Rattle.deployment.specs.Contents.{Contents};
 ghost use Rattle.deployment.specs.File.{accepted, readFile};
 ghost use Rattle.deployment.specs.FieldValues.{leftBy, writing};
 ghost use Rattle.listing.specs.Text.{planPrinted, judgePrinted};
-ghost use Rattle.listing.specs.Printing.{Whole};
+ghost use Rattle.listing.specs.Printing.{Whole, Needed};
 use blocks::put_block;
 use deployment::Refusal;
 use deployment::Why;
 use deployment::Written;
 use deployment::listed;
-use deployment::store;
 use judge::Judged;
 use judge::judge_file;
 use outcomes::put_refused;
@@ -41,33 +39,50 @@ const FIELD_BYTES: usize = 5124;
 pub fn plan_text(file: &[u8], place: &mut [u8]) -> Written
     ensures { λ r. ⌜ leftBy r (now (place .exit)) ≡ writing (planPrinted (now (file .entry))) (now (place .entry)) ⌝ }
 {
-    let mut text = [0u8; MOST_TEXT];
-    let size = put_plans(file, &mut text);
-    hand_over(&text, size, place)
+    let needed = plans_needed(file, place.len());
+    if place.len() < needed {
+        return Written::Turned(Refusal {
+            why: Why::Room,
+            at: needed,
+        });
+    }
+    Written::Bytes(put_plans(file, place))
 }
 
 // What `judgelist` prints for a file: the verdict, or the refusal.
 pub fn judge_text(file: &[u8], place: &mut [u8]) -> Written
     ensures { λ r. ⌜ leftBy r (now (place .exit)) ≡ writing (judgePrinted (now (file .entry))) (now (place .entry)) ⌝ }
 {
-    let mut text = [0u8; MOST_TEXT];
-    let size = put_judged(file, &mut text);
-    hand_over(&text, size, place)
-}
-
-// Writes the first `size` bytes of a text into the place, if there is room for them.
-fn hand_over(text: &[u8], size: usize, place: &mut [u8]) -> Written
-    requires { ⌜ size ≤ length (now text) ⌝ }
-    ensures { λ r. ⌜ leftBy r (now (place .exit)) ≡ writing (take size (now (text .entry))) (now (place .entry)) ⌝ }
-{
-    if place.len() < size {
+    let needed = judged_needed(file, place.len());
+    if place.len() < needed {
         return Written::Turned(Refusal {
             why: Why::Room,
-            at: size,
+            at: needed,
         });
     }
-    store(place, 0, &text[..size]);
-    Written::Bytes(size)
+    Written::Bytes(put_judged(file, place))
+}
+
+// How many bytes the text of both plans needs: it is put into no place at all, and counted. Room for the longest text needs no count.
+fn plans_needed(file: &[u8], room: usize) -> usize
+    ensures { λ n. ⌜ Needed (planPrinted (now (file .entry))) room n ⌝ }
+{
+    if MOST_TEXT <= room {
+        return 0;
+    }
+    let mut nowhere = [0u8; 0];
+    put_plans(file, &mut nowhere)
+}
+
+// The same for the text of the verdict.
+fn judged_needed(file: &[u8], room: usize) -> usize
+    ensures { λ n. ⌜ Needed (judgePrinted (now (file .entry))) room n ⌝ }
+{
+    if MOST_TEXT <= room {
+        return 0;
+    }
+    let mut nowhere = [0u8; 0];
+    put_judged(file, &mut nowhere)
 }
 
 // The text of both plans, or of the refusal.

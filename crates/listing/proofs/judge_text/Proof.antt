@@ -1,44 +1,31 @@
--- `judge_text` meets its contract: the whole text is put into a place of its own, which has room for every text, and handed over. Assumes nothing.
-use Prim.Native.Nat.{ℕ}
-use mathlib.Core.Path.{_∙_, ap}
-use mathlib.Core.List.{List}
-use lib.ListN.{replicate, length-replicate}
-use Rattle.deployment.specs.FieldValues.{writing}
-use Rattle.listing.proofs.HandedOver.{whole-inside, whole-taken}
+-- `judge_text` meets its contract: without room nothing is put, with room the whole text is. Assumes nothing.
+use native.Mathlib.Omega.{arith}
+use Rattle.listing.specs.Text.{judgePrinted}
+use Rattle.listing.proofs.HandedOver.{no-room, room}
 use borrow.Author.Needs.{needs}
 use Rattle.listing.proofs.judge_text.Statement.{statement}
 use Rattle.listing.proofs.judge_text.Tie as tie
 
-slice-aggregate-put-judged : tie.Need-slice-aggregate-put-judged
-slice-aggregate-put-judged c = search needs
+judged-needed-requires : tie.Need-judged-needed-requires
+judged-needed-requires c κs = search needs
+
+returns : tie.Need-returns
+returns c =
+    let counted = c .before in
+    let args = counted .before .before .before .args in
+    no-room (judgePrinted (args .file .now)) (args .place .now) _ (counted .judged-needed .ensures) (omega arith)
 
 put-judged-requires : tie.Need-put-judged-requires
 put-judged-requires c κs = search needs
 
-slice-aggregate-hand-over : tie.Need-slice-aggregate-hand-over
-slice-aggregate-hand-over c = search needs
-
-hand-over-requires : tie.Need-hand-over-requires
-hand-over-requires c κs =
-    let put = c .before .before .before in whole-inside {old = replicate 65536 0} (length-replicate {A = ℕ} 65536 0) (search needs) (put .put-judged .ensures)
-
 same-length : tie.Need-same-length
 same-length c = search needs
 
-returns : tie.Need-returns
-returns c =
-    let put = c .before .before .before .before .before .before in
-    let place = put .before .before .before .before .args .place .now in
-    c .before .before .hand-over .ensures
-    ∙ ap (λ (text : List ℕ). writing text place) (whole-taken {old = replicate 65536 0} (length-replicate {A = ℕ} 65536 0) (put .put-judged .ensures))
+returns-2 : tie.Need-returns-2
+returns-2 c =
+    let counted = c .before .before .before .before .before in
+    let args = counted .before .before .before .args in
+    room (judgePrinted (args .file .now)) (args .place .now) _ _ _ (counted .judged-needed .ensures) (omega arith) (c .before .before .put-judged .ensures)
 
 pub judge-text-spec : {M : Type 1} → statement M
-judge-text-spec =
-    tie.close
-    (tie.spec
-    slice-aggregate-put-judged
-    put-judged-requires
-    slice-aggregate-hand-over
-    hand-over-requires
-    same-length
-    returns)
+judge-text-spec = tie.close (tie.spec judged-needed-requires returns put-judged-requires same-length returns-2)
