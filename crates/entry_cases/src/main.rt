@@ -1,7 +1,6 @@
-// Runs the entries on rows of cases and prints the whole answer of each, with a checksum of the lent place where one is lent.
-// Each argument names a file with one row. A case: whether it is about a file (0) or field values (1), whether there is a keep list, whether
-// there is a script; two bytes for the size of the lent place; a flow in 13 bytes; then its parts, themselves a row: the file; or the rules,
-// both policies, the keep list and the script.
+// Runs the entries on rows of cases and prints each whole answer, with a checksum of the place that was lent. Each argument names a row. A case: is it
+// about a file (0) or field values (1), is there a keep list, is there a script; two bytes for the size of the place; a flow in 13 bytes; then its parts,
+// themselves a row: the file; or the rules, both policies, the keep list and the script.
 
 use cases::bytes_at;
 use cases::next_place;
@@ -28,6 +27,11 @@ use reader::file::value;
 
 // What a lent place holds before a call.
 const LENT: u8 = 165;
+
+// A checksum is a polynomial in BASE modulo PRIME.
+const BASE: u64 = 257;
+
+const PRIME: u64 = 4294967291;
 
 // Where the numbers of a case stand.
 const OVER_LISTS: usize = 0;
@@ -127,9 +131,9 @@ fn print_checking(answer: Checking) {
     }
 }
 
-// One more byte of a checksum.
+// A checksum with one more byte.
 fn summed(sum: u32, byte: u8) -> u32 {
-    ((sum as u64 * 257 + byte as u64) % 4294967291) as u32
+    ((sum as u64 * BASE + byte as u64) % PRIME) as u32
 }
 
 fn checksum(bytes: &[u8]) -> u32 {
@@ -183,19 +187,15 @@ fn fill(place: &mut [u8]) {
 
 // A byte of a case; 0 behind its end.
 fn byte(case: &[u8], i: usize) -> u8 {
-    if i < case.len() {
-        case[i]
-    } else {
-        0
-    }
+    if i < case.len() { case[i] } else { 0 }
 }
 
-fn port(case: &[u8], start: usize) -> u16 {
+fn two_at(case: &[u8], start: usize) -> u16 {
     let bytes = value(case, Span { start, size: 2 });
     two(byte(bytes, 0), byte(bytes, 1))
 }
 
-fn address(case: &[u8], start: usize) -> u32 {
+fn four_at(case: &[u8], start: usize) -> u32 {
     let bytes = value(case, Span { start, size: 4 });
     four(
         byte(bytes, 0),
@@ -208,10 +208,10 @@ fn address(case: &[u8], start: usize) -> u32 {
 fn flow(case: &[u8]) -> Flow {
     Flow {
         protocol: byte(case, PROTOCOL),
-        source: address(case, SOURCE),
-        source_port: port(case, SOURCE_PORT),
-        destination: address(case, DESTINATION),
-        destination_port: port(case, DESTINATION_PORT),
+        source: four_at(case, SOURCE),
+        source_port: two_at(case, SOURCE_PORT),
+        destination: four_at(case, DESTINATION),
+        destination_port: two_at(case, DESTINATION_PORT),
     }
 }
 
@@ -318,10 +318,7 @@ fn replay_lists(case: &[u8], place: &mut [u8]) -> Ran {
 fn read_lists(case: &[u8], flow: Flow) {
     print_checking(check_lists(case));
     let rules = part(case, RULES);
-    print_decided(
-        b"initial ",
-        lists::decide(rules, part(case, INITIAL), flow),
-    );
+    print_decided(b"initial ", lists::decide(rules, part(case, INITIAL), flow));
     print_decided(b"target ", lists::decide(rules, part(case, TARGET), flow));
     print_judged(judge_lists(case));
 }
@@ -335,9 +332,10 @@ fn write_lists(case: &[u8], place: &mut [u8]) {
     print_planned(b"plan 2 ", plan_two_lists(case, place), place);
 }
 
+// The lent place is the first bytes of a room that has as many as two bytes can say.
 fn print_case(case: &[u8]) {
     let mut room = [LENT; 65536];
-    let size = port(case, ROOM) as usize;
+    let size = two_at(case, ROOM) as usize;
     if byte(case, OVER_LISTS) == 1 {
         read_lists(case, flow(case));
         write_lists(case, &mut room[..size]);

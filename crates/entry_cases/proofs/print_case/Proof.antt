@@ -5,8 +5,8 @@ use lib.ListN.{length-take}
 use Rattle.entry_cases.proofs.print_case.Statement.{statement}
 use Rattle.entry_cases.proofs.print_case.Tie as tie
 
-port-requires : tie.Need-port-requires
-port-requires c κs = search needs
+two-at-requires : tie.Need-two-at-requires
+two-at-requires c κs = search needs
 
 cast-size : tie.Need-cast-size
 cast-size c = search needs
@@ -57,7 +57,7 @@ pub print-case-spec : {M : Type 1} → statement M
 print-case-spec =
     tie.close
     (tie.spec
-    port-requires
+    two-at-requires
     cast-size
     byte-requires
     flow-requires
