@@ -13,7 +13,7 @@ use damage::Field;
 use draft::Draft;
 use random::Random;
 
-pub use rules::plain_rule;
+pub use rules::{encode, flow_of, plain_rule};
 pub use values::MadeValues;
 
 const FLOWS: u64 = 0x666c_6f77;

@@ -3,6 +3,7 @@
 
 pub mod answers;
 pub mod brute;
+pub mod cases;
 pub mod commands;
 pub mod compare;
 pub mod file;

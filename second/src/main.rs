@@ -1,7 +1,7 @@
 //! The command line: `second planlist`, `judgelist`, `vectors`, `brute`,
-//! `inputs` and `compare`; see README.md.
+//! `inputs`, `compare` and `cases`; see README.md.
 
-use second::{brute, compare, inputs, text, vectors};
+use second::{brute, cases, compare, inputs, text, vectors};
 use std::error::Error;
 use std::io::{self, Read, Write};
 use std::path::Path;
@@ -16,6 +16,7 @@ usage: second planlist < FILE
        second brute [--rules N]
        second inputs --seed N --count K --dir FOLDER
        second compare --seed N --count K [--planlist COMMAND --judgelist COMMAND]
+       second cases FOLDER
 ";
 
 /// The value after `--name`, if it is given.
@@ -38,9 +39,9 @@ fn print_text(text_of: fn(&[u8]) -> String) -> Outcome {
     Ok(true)
 }
 
-fn run_vectors(arguments: &[String]) -> Outcome {
+fn in_folder(arguments: &[String], run: fn(&Path) -> io::Result<bool>) -> Outcome {
     let folder = arguments.first().ok_or(USAGE)?;
-    Ok(vectors::run(Path::new(folder))?)
+    Ok(run(Path::new(folder))?)
 }
 
 fn write_inputs(arguments: &[String]) -> Outcome {
@@ -68,10 +69,11 @@ fn run(arguments: &[String]) -> Outcome {
     match name.as_str() {
         "planlist" => print_text(text::plan_text),
         "judgelist" => print_text(text::judge_text),
-        "vectors" => run_vectors(rest),
+        "vectors" => in_folder(rest, vectors::run),
         "brute" => Ok(brute::run(number(rest, "--rules", 4)? as u16)),
         "inputs" => write_inputs(rest),
         "compare" => run_compare(rest),
+        "cases" => in_folder(rest, cases::run),
         _ => Err(USAGE.into()),
     }
 }

@@ -1,7 +1,7 @@
 //! The two planners: scripts that lead from the initial policy to the target.
 
 use crate::commands::{script_field, Command};
-use crate::file::{check, numbers, put, Refusal, Values, MOST_RULES};
+use crate::file::{check, numbers, put, Contents, Refusal, Values, MOST_RULES};
 
 /// A script with the number of rules it leaves untouched.
 #[derive(Clone, Debug, PartialEq, Eq)]
@@ -189,13 +189,17 @@ pub fn plan(kind: u8, initial: &[u16], target: &[u16], keep: Option<&[u16]>) -> 
     }
 }
 
-/// Plans over tested values and writes the script field into a lent place.
-pub fn plan_values(kind: u8, values: &Values, place: &mut [u8]) -> Result<Written, Refusal> {
-    let contents = check(values)?;
+/// Plans over accepted contents and writes the script field into a lent place.
+pub fn plan_contents(kind: u8, contents: &Contents, place: &mut [u8]) -> Result<Written, Refusal> {
     let keep = contents.keep.map(numbers);
     let plan = plan(kind, &numbers(contents.initial), &numbers(contents.target), keep.as_deref());
     let bytes = put(&script_field(kind, &plan.commands), place)?;
     Ok(Written { bytes, kept: plan.kept, commands: plan.commands.len() })
+}
+
+/// The same over field values, tested first.
+pub fn plan_values(kind: u8, values: &Values, place: &mut [u8]) -> Result<Written, Refusal> {
+    plan_contents(kind, &check(values)?, place)
 }
 
 #[cfg(test)]

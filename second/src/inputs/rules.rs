@@ -19,7 +19,8 @@ const NUMBERS: [(&[u32], u32, usize); 5] = [
     (&PORTS, 65535, 2),
 ];
 
-fn encode(permit: bool, ranges: &[Range; 5]) -> Vec<u8> {
+/// The 27 bytes of a rule.
+pub fn encode(permit: bool, ranges: &[Range; 5]) -> Vec<u8> {
     let mut rule = vec![u8::from(permit)];
     for (range, (_, _, width)) in ranges.iter().zip(NUMBERS) {
         rule.extend_from_slice(&range.low.to_be_bytes()[4 - width..]);
@@ -91,7 +92,8 @@ pub fn catalogue(random: &mut Random, count: usize) -> Vec<Vec<u8>> {
     rules
 }
 
-fn flow_of(numbers: [u32; 5]) -> Flow {
+/// The flow of these five numbers.
+pub fn flow_of(numbers: [u32; 5]) -> Flow {
     Flow {
         protocol: numbers[0] as u8,
         source: numbers[1],

@@ -1,0 +1,127 @@
+//! What the program must print for a case.
+
+use super::{Case, Given, Over};
+use crate::answers::LENT_BYTE;
+use crate::commands::commands_of;
+use crate::file::{self, Contents, Refusal, Values};
+use crate::judge::judge;
+use crate::plan::plan_contents;
+use crate::policy::{self, Decision, Flow};
+use crate::replay::{self, RunningList};
+
+/// Contents with the script that is to be replayed.
+type Scripted<'a> = Result<(Contents<'a>, &'a [u8]), Refusal>;
+
+fn or_refused<T>(answer: Result<T, Refusal>, say: impl FnOnce(T) -> String) -> String {
+    match answer {
+        Ok(answer) => say(answer),
+        Err(Refusal { number, position }) => format!("refused {number} at {position}"),
+    }
+}
+
+/// A checksum of every byte: a polynomial modulo a prime.
+fn checksum(bytes: &[u8]) -> u64 {
+    bytes.iter().fold(1, |sum, &byte| (sum * 257 + u64::from(byte)) % 4_294_967_291)
+}
+
+/// What a call says that is lent a place, and the place's checksum afterwards.
+fn lent(room: usize, call: impl FnOnce(&mut [u8]) -> String) -> String {
+    let mut place = vec![LENT_BYTE; room];
+    let said = call(&mut place);
+    format!("{said} place {}", checksum(&place))
+}
+
+/// Start and size of a part of a file.
+fn span(file: &[u8], part: &[u8]) -> String {
+    format!("{} {}", part.as_ptr() as usize - file.as_ptr() as usize, part.len())
+}
+
+fn reading(file: &[u8], contents: &Contents) -> String {
+    let Contents { rules, initial, target, keep, script } = contents;
+    let optional = |part: &Option<&[u8]>| part.map_or("none".to_string(), |part| span(file, part));
+    format!(
+        "rules {} initial {} target {} keep {} script {}",
+        rules.len(),
+        span(file, initial),
+        span(file, target),
+        optional(keep),
+        optional(script)
+    )
+}
+
+fn decision(decision: Decision) -> String {
+    format!("{} {}", if decision.permit { "permit" } else { "deny" }, decision.place)
+}
+
+fn verdict(scripted: Scripted) -> String {
+    or_refused(scripted, |(contents, script)| {
+        let (initial, target) = (file::numbers(contents.initial), file::numbers(contents.target));
+        let verdict = judge(contents.rules.len(), &initial, &target, &commands_of(script));
+        let numbers: Vec<String> = verdict.numbers().iter().map(usize::to_string).collect();
+        format!("verdict {}", numbers.join(" "))
+    })
+}
+
+fn replayed(scripted: Scripted, place: &mut [u8]) -> String {
+    or_refused(scripted, |(contents, script)| {
+        let mut list = RunningList::new(&file::numbers(contents.initial), contents.rules.len());
+        match replay::replay(&mut list, &commands_of(script), |_, _| ()) {
+            Err(broken) => format!("broken {} at {}", broken.number, broken.step),
+            Ok(()) => or_refused(file::put(&file::list_value(list.rules()), place), |bytes| format!("ended {bytes}")),
+        }
+    })
+}
+
+fn planned(kind: u8, contents: &Result<Contents, Refusal>, place: &mut [u8]) -> String {
+    let answer = contents.as_ref().map_err(|&refusal| refusal);
+    or_refused(answer.and_then(|contents| plan_contents(kind, contents, place)), |plan| {
+        format!("kept {} commands {} bytes {}", plan.kept, plan.commands, plan.bytes)
+    })
+}
+
+/// The lines of judge, replay and planners, which both kinds of entries have.
+fn later_lines(room: usize, contents: Result<Contents, Refusal>, judged: Scripted, replay: Scripted) -> String {
+    let judge = verdict(judged);
+    let replay = lent(room, |place| replayed(replay, place));
+    let [one, two] = [1, 2].map(|kind| lent(room, |place| planned(kind, &contents, place)));
+    format!("judge {judge}\nreplay {replay}\nplan 1 {one}\nplan 2 {two}\n")
+}
+
+fn file_text(bytes: &[u8], flow: &Flow, room: usize) -> String {
+    let contents = file::read(bytes);
+    let scripted = file::read_with_script(bytes);
+    let read = or_refused(contents.clone(), |contents| reading(bytes, &contents));
+    let to_judge = or_refused(scripted.clone(), |(contents, _)| reading(bytes, &contents));
+    let decide = |policy: fn(&Contents) -> Vec<u8>| {
+        or_refused(contents.clone(), |contents| decision(policy::decide(&contents.rules, &policy(&contents), flow)))
+    };
+    let (initial, target) = (decide(|contents| contents.initial.to_vec()), decide(|contents| contents.target.to_vec()));
+    let first = format!("read {read}\nread to judge {to_judge}\ninitial {initial}\ntarget {target}\n");
+    first + &later_lines(room, contents, scripted.clone(), scripted)
+}
+
+fn checked<'a>(values: &Values<'a>, script: &'a [u8]) -> Scripted<'a> {
+    file::check(&Values { script: Some(script), ..*values }).map(|contents| (contents, script))
+}
+
+fn lists_text(given: &Given, flow: &Flow, room: usize) -> String {
+    let values = given.values();
+    let contents = file::check(&values);
+    let check = match &contents {
+        Ok(_) => "good".to_string(),
+        Err(refusal) => refusal.number.to_string(),
+    };
+    let decide = |policy| or_refused(policy::decide_values(values.rules, policy, flow), decision);
+    let first = format!("check {check}\ninitial {}\ntarget {}\n", decide(values.initial), decide(values.target));
+    let judged = checked(&values, given.lent_script());
+    // The replay is given neither a target nor a keep list.
+    let replay = checked(&Values { target: &[], keep: None, ..values }, given.lent_script());
+    first + &later_lines(room, contents, judged, replay)
+}
+
+pub fn text(case: &Case) -> String {
+    match &case.over {
+        Over::File(file) => file_text(file, &case.flow, case.room),
+        Over::Lists(given) => lists_text(given, &case.flow, case.room),
+    }
+}

@@ -1,0 +1,180 @@
+//! The groups of cases: document 01's examples, rooms, flows, limits; and those
+//! of the other modules.
+
+use super::{faults, made, scripts, Case, Given, Over};
+use crate::commands::Command::{self, *};
+use crate::commands::{commands_of, script_value};
+use crate::file::{list_value, numbers, MOST_COMMANDS, MOST_IN_POLICY, MOST_RULES};
+use crate::inputs::{encode, flow_of, plain_rule};
+use crate::plan::plan;
+use crate::policy::{Flow, Range};
+
+/// A flow of a protocol without ports.
+pub const NO_PORTS: Flow = Flow { protocol: 47, source: 1, source_port: 0, destination: 2, destination_port: 0 };
+
+/// Room for any small plan, and for the longest.
+const SMALL_ROOM: usize = 64;
+const GREAT_ROOM: usize = 6000;
+
+/// Policies over so many plain rules.
+pub fn given(rules: u16, initial: &[u16], target: &[u16]) -> Given {
+    let rules = (0..rules).flat_map(plain_rule).collect();
+    Given { rules, initial: list_value(initial), target: list_value(target), keep: None, script: None }
+}
+
+impl Given {
+    pub fn keep(self, keep: &[u16]) -> Given {
+        Given { keep: Some(list_value(keep)), ..self }
+    }
+
+    pub fn script(self, kind: u8, commands: &[Command]) -> Given {
+        Given { script: Some(script_value(kind, commands)), ..self }
+    }
+
+    /// With the planner's script.
+    pub fn planned(self, kind: u8) -> Given {
+        let keep = self.keep.as_deref().map(numbers);
+        let plan = plan(kind, &numbers(&self.initial), &numbers(&self.target), keep.as_deref());
+        self.script(kind, &plan.commands)
+    }
+
+    pub fn commands(&self) -> Vec<Command> {
+        self.script.as_deref().map(commands_of).unwrap_or_default()
+    }
+}
+
+/// The same values in a file and as lists.
+pub fn both(given: Given, room: usize, flow: Flow) -> [Case; 2] {
+    let file = Over::File(given.file());
+    [Case { over: file, room, flow }, Case { over: Over::Lists(given), room, flow }]
+}
+
+pub fn both_of_all(all: Vec<Given>) -> Vec<Case> {
+    all.into_iter().flat_map(|given| both(given, SMALL_ROOM, NO_PORTS)).collect()
+}
+
+fn first_example() -> Given {
+    given(5, &[0, 1, 2, 3], &[1, 0, 4, 3])
+}
+
+fn third_example() -> Given {
+    given(3, &[0, 1, 2], &[2, 0, 1])
+}
+
+fn full_ranges() -> [Range; 5] {
+    [255, u32::MAX, 65535, u32::MAX, 65535].map(|high| Range { low: 0, high })
+}
+
+fn examples() -> Vec<Case> {
+    let swaps = [1, 0, 2, 3].iter().flat_map(|&r| [DelRule { r }, App { r }]).collect::<Vec<_>>();
+    let mut port_zero = full_ranges();
+    port_zero[4].high = 0;
+    let permit_port_zero = Given { rules: encode(true, &port_zero), initial: vec![0, 0], ..Given::default() };
+    let mut cases = both_of_all(vec![
+        first_example(),
+        first_example().planned(1),
+        first_example().planned(2),
+        third_example(),
+        third_example().keep(&[0, 1]),
+        third_example().keep(&[1, 0]),
+        given(2, &[0, 1], &[1, 0]).keep(&[]),
+        given(3, &[2, 0, 1], &[2, 0, 1]).planned(1),
+        Given::default().planned(2),
+        given(2, &[0], &[1]).script(2, &[DelPlace { i: 1 }, Ins { i: 1, r: 1 }]),
+        given(4, &[0, 1, 2, 3], &[1, 0, 2, 3]).script(1, &swaps),
+        given(3, &[0, 1], &[0, 1]).script(2, &[Mov { i: 2, j: 3 }]),
+        given(3, &[0, 1], &[0, 1, 2]).script(2, &[Ins { i: 3, r: 2 }]),
+        permit_port_zero,
+    ]);
+    cases.push(Case { over: Over::File(Vec::new()), room: 0, flow: NO_PORTS });
+    cases
+}
+
+/// Every room from none to one byte more than the longest output.
+fn rooms() -> Vec<Case> {
+    let all = [(third_example().keep(&[0, 1]).planned(2), 25), (Given::default().planned(1), 5)];
+    let sized = all.iter().flat_map(|(given, most)| (0..=*most).map(|room| (given.clone(), room)));
+    sized.flat_map(|(given, room)| both(given, room, NO_PORTS)).collect()
+}
+
+/// Flows at, before and behind both ends of each range, by a rule, by one that is
+/// wider by one at each end, by one that takes all, and by none of them.
+fn flows() -> Vec<Case> {
+    let narrow = [(6, 17), (0x0a00_0000, 0x0a00_00ff), (1024, 65533), (0xc0a8_0100, 0xc0a8_01fe), (80, 443)]
+        .map(|(low, high)| Range { low, high });
+    let wide = narrow.map(|Range { low, high }| Range { low: low - 1, high: high + 1 });
+    let rules = [encode(true, &narrow), encode(false, &wide), encode(true, &full_ranges())].concat();
+    let (initial, target) = (list_value(&[0, 1, 2]), list_value(&[1, 0]));
+    let given = Given { rules, initial, target, ..Given::default() };
+    let mut cases = Vec::new();
+    for which in 0..5 {
+        let Range { low, high } = narrow[which];
+        for number in [low - 2, low - 1, low, high, high + 1, high + 2] {
+            let mut numbers = narrow.map(|range| if number < high { range.high } else { range.low });
+            numbers[which] = number;
+            cases.extend(both(given.clone(), 0, flow_of(numbers)));
+        }
+    }
+    cases
+}
+
+fn full_policies() -> Vec<Given> {
+    let numbers: Vec<u16> = (0..MOST_RULES as u16).collect();
+    let (lower, upper) = numbers.split_at(MOST_IN_POLICY);
+    let reversed: Vec<u16> = lower.iter().rev().copied().collect();
+    vec![
+        given(MOST_RULES as u16, lower, upper).planned(2),
+        given(MOST_IN_POLICY as u16, lower, &reversed).planned(1),
+        given(MOST_IN_POLICY as u16, lower, lower).keep(lower),
+    ]
+}
+
+/// One list with a number more than a policy holds, each in its turn.
+fn long_lists() -> Vec<Given> {
+    let long = vec![0; 2 * (MOST_IN_POLICY + 1)];
+    let short = given(2, &[0, 1], &[1, 0]);
+    vec![
+        Given { initial: long.clone(), ..short.clone() },
+        Given { target: long.clone(), ..short.clone() },
+        Given { keep: Some(long), ..short },
+    ]
+}
+
+fn long_scripts() -> Vec<Given> {
+    let same = given(2, &[0, 1], &[0, 1]);
+    let moves = |count| same.clone().script(2, &vec![Mov { i: 2, j: 2 }; count]);
+    let mut odd = moves(MOST_COMMANDS);
+    odd.script.as_mut().expect("a script").push(0);
+    vec![
+        moves(MOST_COMMANDS),
+        moves(MOST_COMMANDS + 1),
+        odd,
+        same.clone().script(1, &[DelRule { r: 1 }, App { r: 1 }].repeat(MOST_COMMANDS / 2)),
+    ]
+}
+
+/// Catalogues of 1,024 rules, of one more, and of a part of one more.
+fn full_catalogues() -> Vec<Given> {
+    let over = given(MOST_RULES as u16 + 1, &[], &[1023]);
+    let mut cut = over.clone();
+    cut.rules.pop();
+    vec![given(MOST_RULES as u16, &[], &[1023]), over, cut]
+}
+
+fn limits() -> Vec<Case> {
+    let all = [full_catalogues(), full_policies(), long_lists(), long_scripts()].concat();
+    all.into_iter().flat_map(|given| both(given, GREAT_ROOM, NO_PORTS)).collect()
+}
+
+pub fn all() -> Vec<(&'static str, Vec<Case>)> {
+    vec![
+        ("example", examples()),
+        ("room", rooms()),
+        ("flow", flows()),
+        ("limit", limits()),
+        ("script", scripts::all()),
+        ("fault", faults::all()),
+        ("file", made::files()),
+        ("list", made::lists()),
+    ]
+}
