@@ -6,8 +6,20 @@ ghost use lib.Seq.{sets};
 ghost use Rattle.policy.specs.Command.{faultNumber};
 ghost use Rattle.deployment.specs.Values.{actionNumber};
 ghost use Rattle.pageoriole.specs.Answers.{
-    told, turnedTold, layoutTold, readTold, checkedTold, writtenTold, decisionTold, decidedTold, ranTold, plannedTold, verdictTold, judgedTold,
-    shownWords, Tells
+  told,
+  turnedTold,
+  layoutTold,
+  readTold,
+  checkedTold,
+  writtenTold,
+  decisionTold,
+  decidedTold,
+  ranTold,
+  plannedTold,
+  verdictTold,
+  judgedTold,
+  shownWords,
+  Tells,
 };
 use deployment::Refusal;
 use deployment::Written;

@@ -19,7 +19,7 @@ cast-t10 : tie.Need-cast-t10
 cast-t10 c = search needs
 
 returns : tie.Need-returns
-returns c = 
+returns c =
     let l = c .before .before .args .layout in
     rw (as-flag (l .«has_keep»), as-flag (l .«has_script»))
 

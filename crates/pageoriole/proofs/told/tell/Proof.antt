@@ -3,8 +3,8 @@ use Prim.Native.Nat.{ℕ, _≤_}
 use native.Mathlib.Omega.{arith}
 use mathlib.Core.Path.{_≡_, refl, sym, _∙_, ap}
 use mathlib.Core.List.{List}
-use lib.ListN.{length, take, take-of-length-le}
-use lib.Seq.{sets, length-take-le}
+use lib.ListN.{length}
+use lib.Seq.{take-all, length-take-le}
 use Rattle.running.proofs.Slots.{field-length}
 use Rattle.pageoriole.specs.Answers.{Tells}
 use borrow.Author.Needs.{needs}
@@ -45,7 +45,13 @@ same-length-2 : tie.Need-same-length-2
 same-length-2 c = search needs
 
 returns-2 : tie.Need-returns-2
-returns-2 c = ?
+returns-2 c =
+    let start = c .before .before .before .before .before .before .before .before in
+    let words = start .args .words in
+    record {
+      number = refl;
+      answer = rw (take-all (words .count) (words .values) (omega (arith, all-values start))) (c .before .before .store2 .ensures);
+    }
 
 pub tell-spec : {M : Type 1} → statement M
 tell-spec =
