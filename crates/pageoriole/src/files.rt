@@ -53,7 +53,11 @@ pub extern "C" fn pageoriole_decide_file(
     destination_port: u16,
     answer: &mut [u64],
 ) -> u32
-    ensures { λ n. ⌜ Tells (decidedTold (decidedReading «of_target» (flowOf protocol source «source_port» destination «destination_port») (readFile (now (file .entry))))) n (now (answer .entry)) (now (answer .exit)) ⌝ }
+    ensures { λ n. ⌜
+        Tells
+        (decidedTold (decidedReading «of_target» (flowOf protocol source «source_port» destination «destination_port») (readFile (now (file .entry)))))
+        n (now (answer .entry)) (now (answer .exit))
+        ⌝ }
 {
     let flow = Flow {
         protocol,
@@ -70,7 +74,11 @@ pub extern "C" fn pageoriole_decide_file(
 // Replays the script of the file: bytes of the last list, which fills the first bytes of `place`; or 20 to 23 and the step.
 #[no_mangle]
 pub extern "C" fn pageoriole_replay_file(file: &[u8], place: &mut [u8], answer: &mut [u64]) -> u32
-    ensures { λ n. ⌜ Leaves (replayOutcome (replayedReading (readToJudge (now (file .entry))) (now (place .entry)))) n (now (answer .entry)) (now (answer .exit)) (now (place .exit)) ⌝ }
+    ensures { λ n. ⌜
+        Leaves
+        (replayOutcome (replayedReading (readToJudge (now (file .entry))) (now (place .entry))))
+        n (now (answer .entry)) (now (answer .exit)) (now (place .exit))
+        ⌝ }
 {
     let found = replay(file, place);
     let words = ran_told(found);
@@ -80,7 +88,11 @@ pub extern "C" fn pageoriole_replay_file(file: &[u8], place: &mut [u8], answer: 
 // Plans by append and delete: rules kept, commands and bytes of the script field, which fills the first bytes of `place`.
 #[no_mangle]
 pub extern "C" fn pageoriole_plan_one_file(file: &[u8], place: &mut [u8], answer: &mut [u64]) -> u32
-    ensures { λ n. ⌜ Leaves (planOutcome (planned madeOne (readFile (now (file .entry))) (now (place .entry)))) n (now (answer .entry)) (now (answer .exit)) (now (place .exit)) ⌝ }
+    ensures { λ n. ⌜
+        Leaves
+        (planOutcome (planned madeOne (readFile (now (file .entry))) (now (place .entry))))
+        n (now (answer .entry)) (now (answer .exit)) (now (place .exit))
+        ⌝ }
 {
     let found = plan_one(file, place);
     let words = planned_told(found);
@@ -90,7 +102,11 @@ pub extern "C" fn pageoriole_plan_one_file(file: &[u8], place: &mut [u8], answer
 // Plans by insert, delete and move.
 #[no_mangle]
 pub extern "C" fn pageoriole_plan_two_file(file: &[u8], place: &mut [u8], answer: &mut [u64]) -> u32
-    ensures { λ n. ⌜ Leaves (planOutcome (planned madeTwo (readFile (now (file .entry))) (now (place .entry)))) n (now (answer .entry)) (now (answer .exit)) (now (place .exit)) ⌝ }
+    ensures { λ n. ⌜
+        Leaves
+        (planOutcome (planned madeTwo (readFile (now (file .entry))) (now (place .entry))))
+        n (now (answer .entry)) (now (answer .exit)) (now (place .exit))
+        ⌝ }
 {
     let found = plan_two(file, place);
     let words = planned_told(found);

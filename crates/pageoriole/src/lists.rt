@@ -11,7 +11,18 @@ ghost use Rattle.writer.specs.Answers.{writtenValues};
 ghost use Rattle.planner.specs.Plans.{planned, madeOne, madeTwo};
 ghost use Rattle.judge.specs.Answers.{judgedReading};
 ghost use Rattle.entries.specs.Answers.{decidedValues, decidedAtZero, replayedValues, replayedAtZero};
-ghost use Rattle.pageoriole.specs.Answers.{Tells, Leaves, checkedTold, decisionTold, decidedTold, judgedTold, writeOutcome, replayOutcome, planOutcome, flowOf};
+ghost use Rattle.pageoriole.specs.Answers.{
+  Tells,
+  Leaves,
+  checkedTold,
+  decisionTold,
+  decidedTold,
+  judgedTold,
+  writeOutcome,
+  replayOutcome,
+  planOutcome,
+  flowOf,
+};
 use super::told::checked_told;
 use super::told::decided_told;
 use super::told::decision_told;
@@ -45,7 +56,12 @@ pub extern "C" fn pageoriole_check(
     script: &[u8],
     answer: &mut [u64],
 ) -> u32
-    ensures { λ n. ⌜ Tells (checkedTold (checking (valuesRead (valuesGiven (now (rules .entry)) (now (initial .entry)) (now (target .entry)) «has_keep» (now (keep .entry)) «has_script» (now (script .entry)))))) n (now (answer .entry)) (now (answer .exit)) ⌝ }
+    ensures { λ n. ⌜
+        Tells
+        (checkedTold (checking (valuesRead
+        (valuesGiven (now (rules .entry)) (now (initial .entry)) (now (target .entry)) «has_keep» (now (keep .entry)) «has_script» (now (script .entry))))))
+        n (now (answer .entry)) (now (answer .exit))
+        ⌝ }
 {
     let found = check(rules, initial, target, has_keep, keep, has_script, script);
     let words = checked_told(found);
@@ -65,7 +81,13 @@ pub extern "C" fn pageoriole_write(
     place: &mut [u8],
     answer: &mut [u64],
 ) -> u32
-    ensures { λ n. ⌜ Leaves (writeOutcome (writtenValues (valuesGiven (now (rules .entry)) (now (initial .entry)) (now (target .entry)) «has_keep» (now (keep .entry)) «has_script» (now (script .entry))) (now (place .entry)))) n (now (answer .entry)) (now (answer .exit)) (now (place .exit)) ⌝ }
+    ensures { λ n. ⌜
+        Leaves
+        (writeOutcome (writtenValues
+        (valuesGiven (now (rules .entry)) (now (initial .entry)) (now (target .entry)) «has_keep» (now (keep .entry)) «has_script» (now (script .entry)))
+        (now (place .entry))))
+        n (now (answer .entry)) (now (answer .exit)) (now (place .exit))
+        ⌝ }
 {
     let found = write(
         rules,
@@ -93,7 +115,12 @@ pub extern "C" fn pageoriole_decide(
     destination_port: u16,
     answer: &mut [u64],
 ) -> u32
-    ensures { λ n. ⌜ Tells (decidedTold (decidedAtZero (decidedValues (now (rules .entry)) (now (policy .entry)) (flowOf protocol source «source_port» destination «destination_port»)))) n (now (answer .entry)) (now (answer .exit)) ⌝ }
+    ensures { λ n. ⌜
+        Tells
+        (decidedTold (decidedAtZero (decidedValues (now (rules .entry)) (now (policy .entry))
+        (flowOf protocol source «source_port» destination «destination_port»))))
+        n (now (answer .entry)) (now (answer .exit))
+        ⌝ }
 {
     let flow = Flow {
         protocol,
@@ -119,7 +146,13 @@ pub extern "C" fn pageoriole_decide_accepted(
     destination_port: u16,
     answer: &mut [u64],
 ) -> u32
-    ensures { λ n. ⌜ Tells (decisionTold (decide (matching (catalogueOf 0 (now (rules .entry))) (flowOf protocol source «source_port» destination «destination_port»)) (numbersOf (now (policy .entry))))) n (now (answer .entry)) (now (answer .exit)) ⌝ }
+    ensures { λ n. ⌜
+        Tells
+        (decisionTold (decide
+        (matching (catalogueOf 0 (now (rules .entry))) (flowOf protocol source «source_port» destination «destination_port»))
+        (numbersOf (now (policy .entry)))))
+        n (now (answer .entry)) (now (answer .exit))
+        ⌝ }
 {
     let flow = Flow {
         protocol,
@@ -142,7 +175,11 @@ pub extern "C" fn pageoriole_replay(
     place: &mut [u8],
     answer: &mut [u64],
 ) -> u32
-    ensures { λ n. ⌜ Leaves (replayOutcome (replayedAtZero (replayedValues (now (rules .entry)) (now (initial .entry)) (now (script .entry))) (now (place .entry)))) n (now (answer .entry)) (now (answer .exit)) (now (place .exit)) ⌝ }
+    ensures { λ n. ⌜
+        Leaves
+        (replayOutcome (replayedAtZero (replayedValues (now (rules .entry)) (now (initial .entry)) (now (script .entry))) (now (place .entry))))
+        n (now (answer .entry)) (now (answer .exit)) (now (place .exit))
+        ⌝ }
 {
     let found = replay(rules, initial, script, place);
     let words = ran_told(found);
@@ -162,7 +199,13 @@ pub extern "C" fn pageoriole_plan_one(
     place: &mut [u8],
     answer: &mut [u64],
 ) -> u32
-    ensures { λ n. ⌜ Leaves (planOutcome (planned madeOne (readValues (valuesGiven (now (rules .entry)) (now (initial .entry)) (now (target .entry)) «has_keep» (now (keep .entry)) «has_script» (now (script .entry)))) (now (place .entry)))) n (now (answer .entry)) (now (answer .exit)) (now (place .exit)) ⌝ }
+    ensures { λ n. ⌜
+        Leaves
+        (planOutcome (planned madeOne (readValues
+        (valuesGiven (now (rules .entry)) (now (initial .entry)) (now (target .entry)) «has_keep» (now (keep .entry)) «has_script» (now (script .entry))))
+        (now (place .entry))))
+        n (now (answer .entry)) (now (answer .exit)) (now (place .exit))
+        ⌝ }
 {
     let found = plan_one(
         rules,
@@ -191,7 +234,13 @@ pub extern "C" fn pageoriole_plan_two(
     place: &mut [u8],
     answer: &mut [u64],
 ) -> u32
-    ensures { λ n. ⌜ Leaves (planOutcome (planned madeTwo (readValues (valuesGiven (now (rules .entry)) (now (initial .entry)) (now (target .entry)) «has_keep» (now (keep .entry)) «has_script» (now (script .entry)))) (now (place .entry)))) n (now (answer .entry)) (now (answer .exit)) (now (place .exit)) ⌝ }
+    ensures { λ n. ⌜
+        Leaves
+        (planOutcome (planned madeTwo (readValues
+        (valuesGiven (now (rules .entry)) (now (initial .entry)) (now (target .entry)) «has_keep» (now (keep .entry)) «has_script» (now (script .entry))))
+        (now (place .entry))))
+        n (now (answer .entry)) (now (answer .exit)) (now (place .exit))
+        ⌝ }
 {
     let found = plan_two(
         rules,
@@ -218,7 +267,12 @@ pub extern "C" fn pageoriole_judge(
     script: &[u8],
     answer: &mut [u64],
 ) -> u32
-    ensures { λ n. ⌜ Tells (judgedTold (judgedReading (readValues (valuesGiven (now (rules .entry)) (now (initial .entry)) (now (target .entry)) «has_keep» (now (keep .entry)) true (now (script .entry)))))) n (now (answer .entry)) (now (answer .exit)) ⌝ }
+    ensures { λ n. ⌜
+        Tells
+        (judgedTold (judgedReading (readValues
+        (valuesGiven (now (rules .entry)) (now (initial .entry)) (now (target .entry)) «has_keep» (now (keep .entry)) true (now (script .entry))))))
+        n (now (answer .entry)) (now (answer .exit))
+        ⌝ }
 {
     let found = judge(rules, initial, target, has_keep, keep, script);
     let words = judged_told(found);
