@@ -5,6 +5,7 @@ pub mod Tests
 pub mod Fields
 pub mod ReadBack
 pub mod Reader
+pub mod LongFiles
 pub mod FieldValues
 pub mod Storing
 pub mod Answers

@@ -405,43 +405,57 @@ rules-length catalogue =
     rw (← at .2) (omega (arith, length-field rule-tag (ruleBytes (at .0)), length-rule (at .0))))
     ∙ ap (λ (n : ℕ). 30 * n) (length-map catalogue ruleField)
 
-keep-length : (size : ℕ) (initial target : List ℕ) (keep : Option (List ℕ)) → Listed size initial → Keepable initial target keep
-    → length (ifThere keep-tag numbersBytes keep) ≤ 1027
+-- a property of what may be absent, from another
+there-too : {A : Type 0} (P Q : A → Type 0) → ((a : A) → P a → Q a) → (o : Option A) → IfThere P o → IfThere Q o
+there-too P Q implies none h = tt
+there-too P Q implies (some a) h = implies a h
+
+list-length : (tag : ℕ) (list : Option (List ℕ)) → IfThere (λ l. length l ≤ most-listed) list
+    → length (ifThere tag numbersBytes list) ≤ 1027
 unfolding ifThere
-keep-length size initial target none h k = omega arith
-keep-length size initial target (some keep) h k =
-    omega (arith, length-field keep-tag (numbersBytes keep), length-numbers keep, keep-few size initial keep h (k .0))
+list-length tag none h = omega arith
+list-length tag (some l) h = omega (arith, length-field tag (numbersBytes l), length-numbers l)
 
 script-length : (script : Option Script) → IfThere Scripted script → length (ifThere script-tag scriptBytes script) ≤ 10244
 unfolding ifThere
 script-length none h = omega arith
 script-length (some script) h = omega (arith, length-field script-tag (scriptBytes script), length-script script, h .few)
 
-pub valid-fits : (c : Contents) → Valid c → length (fileOf c) ≤ 44045
-unfolding fileOf
-valid-fits c h =
-    let rules = joined (map ruleField (c .catalogue)) in
-    let initial = fieldBytes initial-tag (numbersBytes (c .initial)) in
-    let target = fieldBytes target-tag (numbersBytes (c .target)) in
-    let keep = ifThere keep-tag numbersBytes (c .keep) in
-    let script = ifThere script-tag scriptBytes (c .script) in
+kept-few : (size : ℕ) (initial target keep : Option (List ℕ)) → IfThere (λ policy. There initial × Listed size policy) target
+    → IfThere (λ keep. There target × Sublistᴰ keep (listed initial) × Sublistᴰ keep (listed target)) keep
+    → IfThere (λ l. length l ≤ most-listed) keep
+unfolding listed
+kept-few size initial target none h k = tt
+kept-few size initial none (some keep) h k = absurd (k .0)
+kept-few size initial (some target) (some keep) h k = keep-few size target keep (h .1) (k .2)
+
+pub fields-fit : (f : Fields) → Readable f → length (fieldsBytes f) ≤ 44045
+unfolding fieldsBytes
+fields-fit f h =
+    let size = length (f .catalogue) in
+    let few : List ℕ → Type 0 = λ l. length l ≤ most-listed in
+    let rules = joined (map ruleField (f .catalogue)) in
+    let initial = ifThere initial-tag numbersBytes (f .initial) in
+    let target = ifThere target-tag numbersBytes (f .target) in
+    let keep = ifThere keep-tag numbersBytes (f .keep) in
+    let script = ifThere script-tag scriptBytes (f .script) in
     omega (
       arith,
       length-append rules (initial ++ (target ++ (keep ++ script))),
       length-append initial (target ++ (keep ++ script)),
       length-append target (keep ++ script),
       length-append keep script,
-      rules-length (c .catalogue),
+      rules-length (f .catalogue),
       h .catalogue .few,
-      length-field initial-tag (numbersBytes (c .initial)),
-      length-numbers (c .initial),
-      h .initial .few,
-      length-field target-tag (numbersBytes (c .target)),
-      length-numbers (c .target),
-      h .target .few,
-      keep-length (length (c .catalogue)) (c .initial) (c .target) (c .keep) (h .initial) (h .keep),
-      script-length (c .script) (h .script),
+      list-length initial-tag (f .initial) (there-too (Listed size) few (λ l k. k .few) (f .initial) (h .initial)),
+      list-length target-tag (f .target)
+          (there-too (λ l. There (f .initial) × Listed size l) few (λ l k. k .1 .few) (f .target) (h .target)),
+      list-length keep-tag (f .keep) (kept-few size (f .initial) (f .target) (f .keep) (h .target) (h .keep)),
+      script-length (f .script) (there-too (λ s. There (f .target) × Scripted s) Scripted (λ s k. k .1) (f .script) (h .script)),
     )
+
+pub valid-fits : (c : Contents) → Valid c → length (fileOf c) ≤ 44045
+valid-fits c h = rw (file-fields c) (fields-fit (fieldsOf c) (valid-readable c h))
 
 -- The field values of valid contents.
 rules-back : (done rest : List Rule) → Catalogue (done ++ rest) → rulesRead done (map ruleBytes rest) ≡ good (done ++ rest)

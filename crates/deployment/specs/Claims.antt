@@ -5,7 +5,7 @@ use mathlib.Core.Path.{_≡_}
 use mathlib.Core.Logic.{_↔_}
 use mathlib.Core.List.{List, map}
 use mathlib.Core.Option.{Option, none, some}
-use lib.ListN.{length}
+use lib.ListN.{length, take}
 use Rattle.deployment.specs.Bytes.{joined}
 use Rattle.deployment.specs.Values.{Script, ruleBytes, numbersBytes, scriptBytes}
 use Rattle.deployment.specs.Contents.{Contents}
@@ -64,3 +64,13 @@ ValuesReadBack = (c : Contents) → Valid c → readValues (valuesOf c) ≡ acce
 -- Numbers. An accepted file never exceeds 44,045 bytes.
 abbrev pub AcceptedFileFits : Type 0
 AcceptedFileFits = (file : List ℕ) (c : Contents) → AreBytes file → readFile file ≡ accepted c → length file ≤ 44045
+
+-- The first 65,536 bytes decide: a longer file is read as they are, and turned away with the same number at the same position.
+abbrev pub deciding : ℕ
+deciding = 65536
+
+abbrev pub LongFile : Type 0
+LongFile = (file : List ℕ) → AreBytes file → readFile file ≡ readFile (take deciding file)
+
+abbrev pub LongFileToJudge : Type 0
+LongFileToJudge = (file : List ℕ) → AreBytes file → readToJudge file ≡ readToJudge (take deciding file)

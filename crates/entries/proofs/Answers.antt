@@ -1,12 +1,32 @@
--- Any two answers that a contract allows are equal, with every byte of the place that was lent. Each follows from the contract as the checker
+-- Any two answers that a contract allows are equal, with every byte of the place that was lent; and a replay that gives no list keeps that
+-- place as it was. Each follows from the contract as the checker
 -- reads it, so a weaker contract breaks it. Assumes nothing.
-use mathlib.Core.Path.{_≡_, sym, _∙_, ap}
+use mathlib.Core.Path.{_≡_, refl, sym, _∙_, ap}
 use Prim.Native.Nat.{ℕ}
 use mathlib.Core.List.{List}
+use lib.Dec.{leb}
+use lib.ListN.{length}
 use denote.Ref.{now}
-use Rattle.entries.specs.Answers.{Left, leftBy}
+use Rattle.policy.specs.Replay.{Replayed, ended, broken}
+use Rattle.policy.proofs.Tests.{byTest}
+use Rattle.deployment.specs.Checked.{Checked, good, bad}
+use Rattle.deployment.specs.Values.{numbersBytes}
+use Rattle.deployment.specs.File.{Reading, accepted, refused, readToJudge}
+use Rattle.deployment.specs.FieldValues.{unwritten, writing}
+use Rattle.entries.specs.Answers.{
+  Left,
+  leftBy,
+  ranTo,
+  listLeft,
+  replayLeft,
+  replayedContents,
+  replayedReading,
+  replayedValues,
+  replayedAtZero,
+}
 use Rattle.entries.specs.declared.Decided.{Decided}
 use Rattle.entries.specs.declared.Ran.{Ran}
+use Rattle.entries.specs.declared.Ran.the-variants as ran
 use Rattle.entries.proofs.files.decide.Reads as decide-file
 use Rattle.entries.proofs.files.replay.Reads as replay-file
 use Rattle.entries.proofs.lists.decide.Reads as decide-lists
@@ -30,3 +50,43 @@ one-replay-of-a-file κ a r s e f p q = same-left r s _ _ (p ∙ sym q)
 pub one-replay-of-lists : (κ : _) (a : _) (r s : Ran) (e f : _) → replay-lists.Post κ a r e → replay-lists.Post κ a s f
     → (r ≡ s) × (now (e .1 .1 .1 .0) ≡ now (f .1 .1 .1 .0))
 one-replay-of-lists κ a r s e f p q = same-left r s _ _ (p ∙ sym q)
+
+-- "When turned away, every lent place keeps its bytes", and so where a script breaks off.
+abbrev pub NothingWritten : Ran → Type 0
+NothingWritten (ran.Ended n) = ⊥
+NothingWritten (ran.Broken fault step) = Unit {0}
+NothingWritten (ran.Turned refusal) = Unit {0}
+
+abbrev Keeps : Left → List ℕ → Type 0
+Keeps left place = NothingWritten (left .answer) → left .place ≡ place
+
+replay-keeps : (r : Replayed) (place : List ℕ) → Keeps (replayLeft r place) place
+unfolding replayLeft listLeft leftBy ranTo writing unwritten
+replay-keeps (ended last) place =
+    byTest (leb (length (numbersBytes last)) (length place)) (λ room. rw room (λ written. absurd written)) (λ small. rw small (λ nothing. refl))
+replay-keeps (broken fault step) place = λ nothing. refl
+
+reading-keeps : (reading : Reading) (place : List ℕ) → Keeps (replayedReading reading place) place
+unfolding replayedReading leftBy
+reading-keeps (accepted c) place = replay-keeps (replayedContents c) place
+reading-keeps (refused refusal) place = λ nothing. refl
+
+values-keep : (read : Checked Replayed) (place : List ℕ) → Keeps (replayedAtZero read place) place
+unfolding replayedAtZero leftBy
+values-keep (good r) place = replay-keeps r place
+values-keep (bad why) place = λ nothing. refl
+
+-- what holds of the definition's answer holds of one that equals it
+kept : (answer : Ran) (now : List ℕ) (left : Left) (place : List ℕ) → leftBy answer now ≡ left → Keeps left place
+    → NothingWritten answer → now ≡ place
+unfolding leftBy
+kept answer now left place e keeps = rw (← e) at keeps
+
+pub a-file-that-gives-no-list-keeps-the-place : (κ : _) (a : _) (r : Ran) (e : _) → replay-file.Post κ a r e → NothingWritten r
+    → now (e .1 .0) ≡ now (a .1 .0)
+a-file-that-gives-no-list-keeps-the-place κ a r e p = kept r _ _ (now (a .1 .0)) p (reading-keeps (readToJudge (now (a .0))) (now (a .1 .0)))
+
+pub lists-that-give-no-list-keep-the-place : (κ : _) (a : _) (r : Ran) (e : _) → replay-lists.Post κ a r e → NothingWritten r
+    → now (e .1 .1 .1 .0) ≡ now (a .1 .1 .1 .0)
+lists-that-give-no-list-keep-the-place κ a r e p =
+    kept r _ _ (now (a .1 .1 .1 .0)) p (values-keep (replayedValues (now (a .0)) (now (a .1 .0)) (now (a .1 .1 .0))) (now (a .1 .1 .1 .0)))

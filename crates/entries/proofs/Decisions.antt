@@ -11,17 +11,17 @@ use Rattle.policy.specs.Policy.{most-rules, decide, matching}
 use Rattle.policy.specs.Rule.{Rule}
 use Rattle.policy.specs.declared.Decision.{Decision}
 use Rattle.policy.specs.declared.Flow.{Flow}
-use Rattle.deployment.specs.Checked.{Checked, good, bad, _>>=_}
+use Rattle.deployment.specs.Checked.{Checked}
 use Rattle.deployment.specs.Bytes.{part, chunks}
 use Rattle.deployment.specs.Values.{rule-bytes, ruleOf, numbersOf}
 use Rattle.deployment.specs.Catalogue.{recordCount, recordsOf, catalogueOf}
-use Rattle.deployment.specs.Contents.{Contents}
+use Rattle.deployment.specs.Contents.{Contents, ruleRead}
 use Rattle.deployment.specs.File.{Reading, accepted, refused, readFile}
 use Rattle.deployment.specs.FieldValues.{rulesRead, catalogueValue, policyValue}
 use Rattle.deployment.specs.Properties.{AreBytes}
 use Rattle.deployment.specs.declared.Why.{Why}
 use Rattle.deployment.specs.declared.Refusal.{Refusal}
-use Rattle.deployment.proofs.Tests.{tested, rule-tested}
+use Rattle.deployment.proofs.Tests.{Each, each-then, tested, rule-tested}
 use Rattle.deployment.proofs.ReadBack.{read-back}
 use Rattle.reader.specs.Answers.{checking, valueAt, shown, fileRead}
 use Rattle.reader.specs.Claims.{Stands}
@@ -87,31 +87,30 @@ module _ {file : List ℕ} {layout : Layout} (read : Read file layout) where
       rw (read .is, decidedReading) (ap decided.Is (e ∙ ap₂ (λ (c : List Rule) (l : List ℕ). decide (matching c flow) l) catalogue policy))
 
 -- Rules that pass are what their bytes are read as.
-bad-good {ℓ} : {A : Type 0} {B : Type ℓ} {why : Why} {a : A} → bad why ≡ good a → B
-bad-good e = absurd (let z : _≡_ {A = ℕ} 0 1 = cc in omega arith)
+abbrev Passing : {A : Type 0} → (A → Type 0) → Checked A → Type 0
+Passing P = Each P (λ why. Unit {0})
 
-rules-are : (done : List Rule) (pieces : List (List ℕ)) (c : List Rule) → rulesRead done pieces ≡ good c → c ≡ done ++ map ruleOf pieces
+rules-are : (done : List Rule) (pieces : List (List ℕ)) (all : List Rule) → done ++ map ruleOf pieces ≡ all
+    → Passing (λ c. c ≡ all) (rulesRead done pieces)
 unfolding rulesRead
-rules-are done [] c e = let same : done ≡ c = cc in rw append-nil (sym same)
-rules-are done (piece ∷ pieces) c e =
-    rule-tested (λ read. _>>=_ read (λ rule. rulesRead (done ++ (rule ∷ [])) pieces) ≡ good c → c ≡ done ++ map ruleOf (piece ∷ pieces)) done piece
-    (λ wrong. bad-good) (λ fits known. bad-good)
-    (λ fits new f. rules-are (done ++ (ruleOf piece ∷ [])) pieces c f ∙ append-assoc done (ruleOf piece ∷ []) (map ruleOf pieces))
-    e
+rules-are done [] all e = sym (append-nil done) ∙ e
+rules-are done (piece ∷ pieces) all e =
+    each-then (λ rule. rule ≡ ruleOf piece) (λ c. c ≡ all) (λ why. Unit {0}) (ruleRead done piece) _
+    (rule-tested (Passing (λ rule. rule ≡ ruleOf piece)) done piece (λ wrong. tt) (λ fits known. tt) (λ fits new. refl))
+    (λ rule is. rules-are (done ++ (rule ∷ [])) pieces all (rw (is, append-assoc) e))
 
 none-skipped : (pieces : List (List ℕ)) → map ruleOf pieces ≡ map ruleOf (map (drop 0) pieces)
 none-skipped [] = refl
 none-skipped (piece ∷ pieces) = ap (λ (l : List Rule). ruleOf piece ∷ l) (none-skipped pieces)
 
-pub catalogue-is : (value : List ℕ) (c : List Rule) → catalogueValue value ≡ good c → c ≡ catalogueOf 0 value
+catalogue-is : (value : List ℕ) → Passing (λ c. c ≡ catalogueOf 0 value) (catalogueValue value)
 unfolding catalogueValue catalogueOf recordsOf recordCount
-catalogue-is value c =
-    let Right : Checked (List Rule) → Type 0 = λ read. read ≡ good c → c ≡ catalogueOf 0 value in
-    let count = length value / rule-bytes in
-    tested Right (eqb (length value % rule-bytes) 0) (λ uneven. bad-good)
-    (λ whole.
-    tested Right (leb (length value) (rule-bytes * most-rules)) (λ many. bad-good)
-    (λ few read. rules-are [] (chunks rule-bytes count value) c read ∙ none-skipped (chunks rule-bytes count value)))
+catalogue-is value =
+    let P = Passing (λ c. c ≡ catalogueOf 0 value) in
+    let pieces = chunks rule-bytes (length value / rule-bytes) value in
+    tested P (eqb (length value % rule-bytes) 0) (λ uneven. tt) λ whole.
+    tested P (leb (length value) (rule-bytes * most-rules)) (λ many. tt) λ few.
+    rules-are [] pieces (catalogueOf 0 value) (none-skipped pieces)
 
 -- Field values: turned away at the rules, at the policy, or decided.
 module _ (rules value : List ℕ) (flow : Flow) where
@@ -135,5 +134,5 @@ module _ (rules value : List ℕ) (flow : Flow) where
         → decided.Is d ≡ decidedAtZero (decidedValues rules value flow)
     unfolding decidedValues decidedAtZero
     decided-values d e is =
-        rw (passed .read, policy-passed (length (passed .catalogue)) value (rw counted at e))
-        (ap decided.Is (rw (catalogue-is rules (passed .catalogue) (passed .read)) is))
+        let rules-read : passed .catalogue ≡ catalogueOf 0 rules = rw (passed .read) at (catalogue-is rules) in
+        rw (passed .read, policy-passed (length (passed .catalogue)) value (rw counted at e)) (ap decided.Is (rw rules-read is))

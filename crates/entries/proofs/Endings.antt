@@ -32,7 +32,8 @@ shown-over : (size : ℕ) (initial script : List ℕ) → replayed size initial 
 unfolding replayed replayedOver shownOf
 shown-over size initial script = by-policy (policyValue (min size 1024) initial) refl
   where
-    by-script : (policy : List ℕ) (read : Checked (Option Script)) → policyValue (min size 1024) initial ≡ good policy → scriptValue (some script) ≡ read
+    by-script : (policy : List ℕ) (read : Checked (Option Script)) → policyValue (min size 1024) initial ≡ good policy
+        → scriptValue (some script) ≡ read
         → replayed size initial script ≡ shownOf (replayedOver (min size 1024) initial script)
     by-script policy (good read) e f = rw (e, replayed, replayedOver) (rw (f, shownOf))
     by-script policy (bad why) e f = rw (e, replayed, replayedOver) (rw (f, shownOf))
@@ -47,18 +48,23 @@ module _ (size : ℕ) (initial script place : List ℕ) (r : code.Replayed) (sho
   abbrev Leaves : Ran → List ℕ → Type 0
   Leaves answer now = leftBy answer now ≡ replayedAtZero (replayedOver (min size 1024) initial script) place
 
+  ends-so : r .ending ≡ (shownOf (replayedOver (min size 1024) initial script)) .ending
+  unfolding shownBy
+  ends-so = ap (λ (o : Outcome). o .ending) (shows ∙ shown-over size initial script)
+
   pub turned-away : (why : Why) → r .ending ≡ Turned why → Leaves (ran.Turned (record { why = why; at = 0 })) place
   unfolding replayedAtZero shownOf shownBy outcomeOf stopped
-  turned-away why e = go (replayedOver (min size 1024) initial script) (ap (λ (o : Outcome). o .ending) (shows ∙ shown-over size initial script))
+  turned-away why e = go (replayedOver (min size 1024) initial script) ends-so
     where
-      go : (x : Checked Replayed) → r .ending ≡ (shownOf x) .ending → leftBy (ran.Turned (record { why = why; at = 0 })) place ≡ replayedAtZero x place
+      go : (x : Checked Replayed) → r .ending ≡ (shownOf x) .ending
+          → leftBy (ran.Turned (record { why = why; at = 0 })) place ≡ replayedAtZero x place
       go (good (ended l)) f = absurd (let z : _≡_ {A = ℕ} 0 1 = cc in omega arith)
       go (good (broken fault step)) f = absurd (let z : _≡_ {A = ℕ} 0 1 = cc in omega arith)
       go (bad other) f = let same : why ≡ other = cc in rw same
 
   pub broken-off : (fault : Fault) (step : ℕ) → r .ending ≡ Broken fault step → Leaves (ran.Broken fault step) place
   unfolding replayedAtZero replayLeft shownOf shownBy outcomeOf stopped
-  broken-off fault step e = go (replayedOver (min size 1024) initial script) (ap (λ (o : Outcome). o .ending) (shows ∙ shown-over size initial script))
+  broken-off fault step e = go (replayedOver (min size 1024) initial script) ends-so
     where
       go : (x : Checked Replayed) → r .ending ≡ (shownOf x) .ending → leftBy (ran.Broken fault step) place ≡ replayedAtZero x place
       go (good (ended l)) f = absurd (let z : _≡_ {A = ℕ} 0 1 = cc in omega arith)

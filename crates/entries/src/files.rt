@@ -19,6 +19,9 @@ pub use reader::file::read_to_judge;
 pub use reader::file::value;
 use reader::values::RULE_BYTES;
 
+// A rule's field: its head and its value.
+const RULE_FIELD_BYTES: usize = HEAD_BYTES + RULE_BYTES;
+
 // Decides a flow by the target policy of the file, if asked for, or else by its initial one. The rules stand first, each behind its field's head.
 pub fn decide(file: &[u8], of_target: bool, flow: Flow) -> Decided
     ensures { λ r. ⌜ r ≡ decidedReading «of_target» flow (readFile (now (file .entry))) ⌝ }
@@ -32,10 +35,8 @@ pub fn decide(file: &[u8], of_target: bool, flow: Flow) -> Decided
             } else {
                 layout.initial
             };
-            let rules = Span {
-                start: 0,
-                size: (HEAD_BYTES + RULE_BYTES) * layout.rules,
-            };
+            let size = RULE_FIELD_BYTES * layout.rules;
+            let rules = Span { start: 0, size };
             Decided::Is(decided(
                 value(file, rules),
                 HEAD_BYTES as u8,

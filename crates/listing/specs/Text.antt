@@ -4,7 +4,6 @@ use Prim.Native.String.{String}
 use Prim.Native.Char.{Char, code}
 use mathlib.Core.Bool.{true, false}
 use mathlib.Core.List.{List, [], _∷_, _++_}
-use mathlib.Core.Option.{Option, none, some}
 use lib.ListN.{length}
 use lib.Dec.{ltb}
 use Rattle.policy.specs.AppendDelete.{keptRun, planOne}
@@ -12,11 +11,12 @@ use Rattle.policy.specs.InsertDeleteMove.{keptTwo, planTwo}
 use Rattle.policy.specs.Judge.{verdict, verdictNumbers}
 use Rattle.policy.specs.declared.Command.{Command}
 use Rattle.policy.specs.declared.Command.the-variants.{App, DelRule, Ins, DelPlace, Mov}
+use Rattle.policy.specs.declared.Verdict.{Verdict}
 use Rattle.deployment.specs.Checked.{whyNumber}
-use Rattle.deployment.specs.Values.{Script}
 use Rattle.deployment.specs.Contents.{Contents}
-use Rattle.deployment.specs.File.{Reading, accepted, refused, readFile, readToJudge}
+use Rattle.deployment.specs.File.{accepted, refused, readFile, readToJudge}
 use Rattle.deployment.specs.declared.Refusal.{Refusal}
+use Rattle.replay.specs.Answers.{commandsOf}
 
 -- the bytes of a fixed word
 unfoldable pub text : String → List ℕ
@@ -36,57 +36,70 @@ decimal n = digits (suc n) n
 unfoldable pub spaced : ℕ → List ℕ
 spaced n = text " " ++ decimal n
 
+-- a word, a blank and a number
+unfoldable pub named : String → ℕ → List ℕ
+named word n = text word ++ spaced n
+
 -- "the command's name and its numbers"
 unfoldable pub commandText : Command → List ℕ
-commandText (App r) = text "app" ++ spaced r
-commandText (DelRule r) = text "del" ++ spaced r
-commandText (Ins i r) = text "ins" ++ (spaced i ++ spaced r)
-commandText (DelPlace i) = text "del" ++ spaced i
-commandText (Mov i j) = text "mov" ++ (spaced i ++ spaced j)
+commandText (App r) = named "app" r
+commandText (DelRule r) = named "del" r
+commandText (Ins i r) = named "ins" i ++ spaced r
+commandText (DelPlace i) = named "del" i
+commandText (Mov i j) = named "mov" i ++ spaced j
 
--- "A line gives the step, the command's name and its numbers." The first argument is the step of the first command.
+-- "A line gives the step, the command's name and its numbers."
+unfoldable pub lineText : ℕ → Command → List ℕ
+lineText step c = decimal step ++ (text " " ++ (commandText c ++ text "\n"))
+
+-- a line for each command; the first argument is the step of the first
 unfoldable pub linesText : ℕ → List Command → List ℕ
-linesText at [] = []
-linesText at (c ∷ script) = decimal at ++ (text " " ++ (commandText c ++ (text "\n" ++ linesText (suc at) script)))
+linesText step [] = []
+linesText step (c ∷ script) = lineText step c ++ linesText (suc step) script
 
 -- "The head gives the type, both lengths, rules kept, commands."
-unfoldable pub blockText : ℕ → Contents → ℕ → List Command → List ℕ
-blockText type c kept script =
-    text "type" ++ (spaced type
-    ++ (text " initial" ++ (spaced (length (c .initial))
-    ++ (text " target" ++ (spaced (length (c .target))
-    ++ (text " kept" ++ (spaced kept
-    ++ (text " commands" ++ (spaced (length script)
-    ++ (text "\n" ++ linesText 1 script))))))))))
+unfoldable pub headText : ℕ → ℕ → ℕ → ℕ → ℕ → List ℕ
+headText type initial target kept commands =
+    named "type" type
+    ++ (named " initial" initial
+    ++ (named " target" target
+    ++ (named " kept" kept
+    ++ (named " commands" commands
+    ++ text "\n"))))
 
--- both plans of a file's contents
+unfoldable pub blockText : ℕ → ℕ → ℕ → ℕ → List Command → List ℕ
+blockText type initial target kept script = headText type initial target kept (length script) ++ linesText 1 script
+
+-- one plan of a file's contents: its type, how many rules it keeps, its script
+unfoldable pub planBlock : Contents → ℕ → ℕ → List Command → List ℕ
+planBlock c type kept script = blockText type (length (c .initial)) (length (c .target)) kept script
+
+-- both plans
 unfoldable pub planText : Contents → List ℕ
 planText c =
-    blockText 1 c (length (keptRun (c .initial) (c .target))) (planOne (c .initial) (c .target))
-    ++ blockText 2 c (length (keptTwo (c .initial) (c .target) (c .keep))) (planTwo (c .initial) (c .target) (c .keep))
+    planBlock c 1 (length (keptRun (c .initial) (c .target))) (planOne (c .initial) (c .target))
+    ++ planBlock c 2 (length (keptTwo (c .initial) (c .target) (c .keep))) (planTwo (c .initial) (c .target) (c .keep))
 
 -- "A bad file gives one line, as `refused 3 at 0`."
 unfoldable pub refusedText : Refusal → List ℕ
-refusedText r = text "refused" ++ (spaced (whyNumber (r .why)) ++ (text " at" ++ (spaced (r .at) ++ text "\n")))
+refusedText r = named "refused" (whyNumber (r .why)) ++ (named " at" (r .at) ++ text "\n")
 
--- "one line, as `verdict 30 1 2`, `verdict 22 5` or `verdict 32`": the number and its values
+-- the number of a verdict and its values
 unfoldable pub spacedAll : List ℕ → List ℕ
 spacedAll [] = []
 spacedAll (n ∷ numbers) = spaced n ++ spacedAll numbers
 
--- the commands of a file's script
-unfoldable pub commandsOf : Option Script → List Command
-commandsOf none = []
-commandsOf (some script) = script .commands
-
-unfoldable pub verdictText : Contents → List ℕ
-verdictText c =
-    text "verdict"
-    ++ (spacedAll (verdictNumbers (verdict (length (c .catalogue)) (c .initial) (c .target) (commandsOf (c .script)))) ++ text "\n")
+-- "one line, as `verdict 30 1 2`, `verdict 22 5` or `verdict 32`"
+unfoldable pub verdictText : Verdict → List ℕ
+verdictText v = text "verdict" ++ (spacedAll (verdictNumbers v) ++ text "\n")
 
 -- what each program prints for the bytes of its standard input
 unfoldable pub planPrinted : List ℕ → List ℕ
 planPrinted file = elim (readFile file) [ accepted c ↦ planText c | refused r ↦ refusedText r ]
 
 unfoldable pub judgePrinted : List ℕ → List ℕ
-judgePrinted file = elim (readToJudge file) [ accepted c ↦ verdictText c | refused r ↦ refusedText r ]
+judgePrinted file =
+    elim (readToJudge file) [
+      | accepted c ↦ verdictText (verdict (length (c .catalogue)) (c .initial) (c .target) (commandsOf (c .script)))
+      | refused r ↦ refusedText r
+    ]

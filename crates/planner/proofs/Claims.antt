@@ -69,7 +69,7 @@ leads-two-bytes size l n (d ∷ script) small policy (m, made, rest) c t =
     (List·Memᴰ·cases-cons t)
 
 -- A script of one type that leads from one policy to the other can stand in a file.
-scripted : (c : Contents) → Valid c → (type : ℕ) → (type ≡ 1) ⊎ (type ≡ 2) → (commands : List Command) → length commands ≤ 1024
+pub scripted : (c : Contents) → Valid c → (type : ℕ) → (type ≡ 1) ⊎ (type ≡ 2) → (commands : List Command) → length commands ≤ 1024
     → (ofType type commands ≡ true) × Leads (length (c .catalogue)) (c .initial) commands (c .target)
     → Scripted (record { type = type; commands = commands })
 unfolding ofType
@@ -122,10 +122,10 @@ made-holds made right place plan e =
     (so .0, rw (so .0, so .1) (field-holds made right place))
 
 module _ (c : Contents) (valid : Valid c) where
-  lists-accepted : Accepted (length (c .catalogue)) (c .initial) (c .target) (c .keep)
+  pub lists-accepted : Accepted (length (c .catalogue)) (c .initial) (c .target) (c .keep)
   lists-accepted = record { first = valid .initial .sound; last = valid .target .sound; keepable = valid .keep }
 
-  plans-few : (length (planOne (c .initial) (c .target)) ≤ 1024) × (length (planTwo (c .initial) (c .target) (c .keep)) ≤ 1024)
+  pub plans-few : (length (planOne (c .initial) (c .target)) ≤ 1024) × (length (planTwo (c .initial) (c .target) (c .keep)) ≤ 1024)
   plans-few =
       plans-fit (length (c .catalogue)) (c .initial) (c .target) (c .keep) lists-accepted (valid .initial .few) (valid .target .few)
 

@@ -1,4 +1,4 @@
--- Laws that the proofs of the planners cite.
+-- Laws that the proofs of the planners cite; what is claimed of the definitions, and of the entries.
 pub mod Sending
 pub mod LentPlace
 pub mod GivenLists

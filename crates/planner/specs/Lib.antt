@@ -1,4 +1,4 @@
--- What the planners answer and write, over the definitions of the crates below.
+-- What the planners answer and write, over the definitions of the crates below, and what is claimed of it.
 pub mod Sending
 pub mod Marks
 pub mod AppendDelete

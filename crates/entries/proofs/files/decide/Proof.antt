@@ -46,11 +46,8 @@ enum-known-found c = search needs
 enum-known-found-2 : tie.Need-enum-known-found-2
 enum-known-found-2 c = search needs
 
-add-t12 : tie.Need-add-t12
-add-t12 c = search needs
-
-mul-t13 : tie.Need-mul-t13
-mul-t13 c = omega (arith, few-rules (stands (c .before .before)))
+mul-size : tie.Need-mul-size
+mul-size c = omega (arith, few-rules (stands (c .before .before)))
 
 value-requires : tie.Need-value-requires
 value-requires c κs = search needs
@@ -84,8 +81,7 @@ decide-spec =
     read-requires
     enum-known-found
     enum-known-found-2
-    add-t12
-    mul-t13
+    mul-size
     value-requires
     cast-decided
     value-requires-2

@@ -1,0 +1,110 @@
+// What the case programs share: the rows that their arguments name, and the lines that they print.
+// A row is a two-byte length and that many bytes, again and again.
+
+ghost use Prim.Native.Nat.{_≤_, _-_};
+ghost use lib.ListN.{length};
+ghost use Rattle.io.specs.Counts.{Counts};
+use deployment::Refusal;
+use deployment::two;
+use libc::STDOUT_FILENO;
+use reader::FileRead;
+use reader::Span;
+use reader::file::value;
+
+const LENGTH_BYTES: usize = 2;
+
+// Prints the name of a row, the i-th argument, and reads as much of it as `row` has room for.
+pub fn read_row(i: usize, row: &mut [u8]) -> usize
+    ensures { λ n. ⌜ Counts n (now (row .exit)) ⌝ }
+{
+    let mut name = io::buffer();
+    let n = os::arg(i, &mut name);
+    io::write_all(STDOUT_FILENO, &name[..n]);
+    io::write_all(STDOUT_FILENO, b"\n");
+    let fd = os::open_read(&name[..n]);
+    let got = io::read_full(fd, row);
+    libc::close(fd);
+    got
+}
+
+// The length at the head of a row; 0 where there is none.
+fn first_size(row: &[u8]) -> u16 {
+    if row.len() < LENGTH_BYTES {
+        return 0;
+    }
+    two(row[0], row[1])
+}
+
+// The bytes whose length stands at a place of a row; what there is of them where the row is shorter.
+pub fn bytes_at<'a>(row: &'a [u8], at: usize) -> &'a [u8] {
+    let len = row.len();
+    if len <= at {
+        return &row[len..];
+    }
+    let rest = &row[at..];
+    let size = first_size(rest) as usize;
+    value(
+        rest,
+        Span {
+            start: LENGTH_BYTES,
+            size,
+        },
+    )
+}
+
+// The place behind these bytes, further on while the row lasts.
+pub fn next_place(row: &[u8], at: usize) -> usize
+    ensures { λ r. ⌜ length (now (row .entry)) - r ≤ length (now (row .entry)) - at - 1 ⌝ }
+{
+    let len = row.len();
+    if len <= at {
+        return len;
+    }
+    let size = LENGTH_BYTES + first_size(&row[at..]) as usize;
+    if len - at < size {
+        return len;
+    }
+    at + size
+}
+
+pub fn print_number(word: &[u8], n: usize) {
+    io::write_all(STDOUT_FILENO, word);
+    io::print_decimal(STDOUT_FILENO, n as u64);
+}
+
+pub fn print_refusal(refusal: Refusal) {
+    let why = refusal.why;
+    print_number(b"refused ", why.number() as usize);
+    print_number(b" at ", refusal.at);
+}
+
+fn print_span(word: &[u8], there: bool, span: Span) {
+    io::write_all(STDOUT_FILENO, word);
+    if there {
+        print_number(b" ", span.start);
+        print_number(b" ", span.size);
+    } else {
+        io::write_all(STDOUT_FILENO, b" none");
+    }
+}
+
+// What is read of a file: the refusal, or where its values stand.
+pub fn print_reading(reading: FileRead) {
+    match reading {
+        FileRead::Refused(refusal) => {
+            print_refusal(refusal);
+        }
+        FileRead::Accepted(layout) => {
+            let initial = layout.initial;
+            let target = layout.target;
+            let keep = layout.keep;
+            let script = layout.script;
+            print_number(b"rules ", layout.rules);
+            print_span(b" initial", true, initial);
+            print_span(b" target", true, target);
+            print_span(b" keep", layout.has_keep, keep);
+            print_span(b" script", layout.has_script, script);
+        }
+    }
+    io::write_all(STDOUT_FILENO, b"\n");
+}

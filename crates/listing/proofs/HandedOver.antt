@@ -1,0 +1,31 @@
+-- A text in a lent place: with room it fills the first bytes, without the place is left as it was. Assumes nothing.
+use Prim.Native.Nat.{ℕ, _≤_, _<_}
+use native.Mathlib.Omega.{arith}
+use mathlib.Core.Path.{_≡_, ap}
+use mathlib.Core.Logic.{inl, inr}
+use mathlib.Core.List.{List}
+use borrow.Author.Tests.{le-leb, lt-leb}
+use lib.ListN.{length}
+use Rattle.deployment.specs.FieldValues.{leftBy, unwritten, writing}
+use Rattle.deployment.specs.declared.Why.the-variants.{Room}
+use Rattle.deployment.specs.declared.Written.the-variants.{Bytes, Turned}
+use Rattle.deployment.proofs.Storing.{stored-fills}
+use Rattle.listing.specs.Printing.{most-text, Whole, Needed}
+
+pub no-room : (text place : List ℕ) (n : ℕ) → Needed text (length place) n → length place < n
+    → leftBy (Turned (record { why = Room; at = n })) place ≡ writing text place
+unfolding writing unwritten
+no-room text place n (inl e) small = rw (e, lt-leb (length text) (length place) (omega arith))
+no-room text place n (inr (none, much)) small = absurd (omega arith)
+
+fits : (text place : List ℕ) (n : ℕ) → Needed text (length place) n → n ≤ length place → length text ≤ most-text → length text ≤ length place
+fits text place n (inl e) enough short = omega arith
+fits text place n (inr (none, much)) enough short = omega arith
+
+pub room : (text place after : List ℕ) (n next : ℕ) → Needed text (length place) n → n ≤ length place → Whole place text after next
+    → leftBy (Bytes next) after ≡ writing text place
+unfolding writing
+room text place after n next needed enough whole =
+    let h = fits text place n needed enough (whole .ends) in
+    let end : next ≡ length text = omega (arith, whole .put .end) in
+    rw (end, le-leb (length text) (length place) h) (ap (leftBy (Bytes (length text))) (stored-fills (whole .put) h))

@@ -1,0 +1,120 @@
+-- `put_number` meets its contract: the digits of the tenth part, then the last digit. The measure is the number. Assumes nothing.
+use Prim.Native.Nat.{ℕ, _/_, _%_, _+_, _<_}
+use native.Mathlib.Omega.{arith}
+use mathlib.Core.List.{[], _∷_}
+use borrow.Author.Needs.{needs}
+use borrow.Fn.Kinds.{In}
+use borrow.Fn.PlainCycle.{Measures, is, falls, and}
+use Rattle.deployment.proofs.Storing.{stored-more}
+use Rattle.listing.specs.Text.{decimal}
+use Rattle.listing.proofs.Digits.{decimal-one, decimal-more}
+use Rattle.listing.proofs.Pieces.{ends-first, ends-rest}
+use Rattle.listing.proofs.words.put_number.Reads as put-number
+use Rattle.listing.proofs.words.put_number.Kinds as put-number-kinds
+use Rattle.listing.proofs.words.+put_number.Lts-put_number as put-number-lts
+use Rattle.listing.proofs.words.put_digit.Reads as put-digit-reads
+use Rattle.listing.proofs.words.+put_number.{statement}
+use Rattle.listing.proofs.words.+put_number.Tie.{close}
+
+abbrev μ-put-number : Measures 1 put-number-kinds.ps ℕ
+μ-put-number κs a = a .1 .1 .0
+
+abbrev put-number-at : ℕ → In 1 put-number-kinds.ps
+put-number-at t = and 1 put-number-kinds.ps (is 1 put-number-kinds.ps μ-put-number t) put-number.Pre
+
+abbrev put-number-below : ℕ → In 1 put-number-kinds.ps
+put-number-below t = and 1 put-number-kinds.ps (falls 1 put-number-kinds.ps _<_ μ-put-number t) put-number.Pre
+
+put-number-put-digit-requires : (t : ℕ) → put-number-lts.Need-put-digit-requires (
+  put-digit-reads.Asked,
+  put-digit-reads.Learnt,
+  put-number-below t,
+  put-number.Post,
+) (put-number-at t) put-number.Post
+put-number-put-digit-requires t c κs =
+    let start = c .before .before .before in
+    let one = rw (decimal-one (start .args .n) (c .before .if1 .taken)) at (start .pre .1) in
+    (omega arith, c .before .if1 .taken)
+
+put-number-same-length : (t : ℕ) → put-number-lts.Need-same-length (
+  put-digit-reads.Asked,
+  put-digit-reads.Learnt,
+  put-number-below t,
+  put-number.Post,
+) (put-number-at t) put-number.Post
+put-number-same-length t c = search needs
+
+put-number-returns : (t : ℕ) → put-number-lts.Need-returns (
+  put-digit-reads.Asked,
+  put-digit-reads.Learnt,
+  put-number-below t,
+  put-number.Post,
+) (put-number-at t) put-number.Post
+put-number-returns t c =
+    let start = c .before .before .before .before .before .before in
+    rw (decimal-one (start .args .n) (c .before .before .before .before .if1 .taken)) (c .before .before .put-digit .ensures)
+
+put-number-put-number-requires : (t : ℕ) → put-number-lts.Need-put-number-requires (
+  put-digit-reads.Asked,
+  put-digit-reads.Learnt,
+  put-number-below t,
+  put-number.Post,
+) (put-number-at t) put-number.Post
+put-number-put-number-requires t c κs =
+    let start = c .before .before .before in
+    let n = start .args .n in
+    let more = c .before .if1 .left in (
+      omega (arith, start .pre .0),
+      ends-first (start .args .at) (decimal (n / 10)) ((48 + n % 10) ∷ []) (rw (decimal-more n more) at (start .pre .1)),
+    )
+
+put-number-put-digit-requires-2 : (t : ℕ) → put-number-lts.Need-put-digit-requires-2 (
+  put-digit-reads.Asked,
+  put-digit-reads.Learnt,
+  put-number-below t,
+  put-number.Post,
+) (put-number-at t) put-number.Post
+put-number-put-digit-requires-2 t c κs =
+    let called = c .before .before .before in
+    let start = called .before .before .before .before in
+    let n = start .args .n in
+    let ends = ends-rest (decimal (n / 10)) ((48 + n % 10) ∷ []) (called .put-number .ensures)
+    (rw (decimal-more n (called .before .before .if1 .left)) at (start .pre .1)) in
+    (omega arith, omega arith)
+
+put-number-same-length-2 : (t : ℕ) → put-number-lts.Need-same-length-2 (
+  put-digit-reads.Asked,
+  put-digit-reads.Learnt,
+  put-number-below t,
+  put-number.Post,
+) (put-number-at t) put-number.Post
+put-number-same-length-2 t c = search needs
+
+put-number-returns-2 : (t : ℕ) → put-number-lts.Need-returns-2 (
+  put-digit-reads.Asked,
+  put-digit-reads.Learnt,
+  put-number-below t,
+  put-number.Post,
+) (put-number-at t) put-number.Post
+put-number-returns-2 t c =
+    let called = c .before .before .before .before .before .before in
+    let start = called .before .before .before .before in
+    rw (decimal-more (start .args .n) (called .before .before .if1 .left))
+    (stored-more (called .put-number .ensures) (c .before .before .put-digit2 .ensures))
+
+pub +put-number-spec : {M : Type 1} → statement M
++put-number-spec = close μ-put-number λ t. put-number-lts.spec (
+  put-digit-reads.Asked,
+  put-digit-reads.Learnt,
+  put-number-below t,
+  put-number.Post,
+)
+    (put-number-at t)
+    put-number.Post
+    (put-number-put-digit-requires t)
+    (put-number-same-length t)
+    (put-number-returns t)
+    (put-number-put-number-requires t)
+    (put-number-put-digit-requires-2 t)
+    (put-number-same-length-2 t)
+    (put-number-returns-2 t)

@@ -1,0 +1,87 @@
+// Outcomes of one line: a refusal and a verdict, from the start of the place on.
+
+ghost use mathlib.Core.Path.{_≡_};
+ghost use Rattle.policy.specs.Command.{faultNumber};
+ghost use Rattle.policy.specs.Judge.{verdictNumbers};
+ghost use Prim.Native.Nat.{_+_, _≤_};
+ghost use Rattle.listing.specs.Text.{refusedText, verdictText};
+ghost use Rattle.listing.specs.Printing.{most-text, most-values, Values, Whole};
+use super::words::put_named;
+use super::words::put_spaced;
+use super::words::put_word;
+use deployment::Refusal;
+use deployment::Why;
+use policy::Fault;
+use policy::Verdict;
+
+// The verdicts' numbers, but for a broken replay: that has its fault's.
+const ELSEWHERE: usize = 24;
+
+const UNORDERED: usize = 30;
+
+const NOT_FULL: usize = 31;
+
+const SAFE: usize = 32;
+
+// "A bad file gives one line, as `refused 3 at 0`."
+pub fn put_refused(place: &mut [u8], refusal: Refusal) -> usize
+    ensures { λ next. ⌜ Whole (now (place .entry)) (refusedText refusal) (now (place .exit)) next ⌝ }
+{
+    let why = refusal.why;
+    put_why(place, why, refusal.at)
+}
+
+// The same, of the number's case and the position.
+fn put_why(place: &mut [u8], why: Why, at: usize) -> usize
+    ensures { λ next. ⌜ Whole (now (place .entry)) (refusedText (record { why = why; at = at })) (now (place .exit)) next ⌝ }
+{
+    let number = why.number() as usize;
+    let mut next = put_named(place, 0, b"refused", number);
+    next = put_named(place, next, b" at", at);
+    put_word(place, next, b"\n")
+}
+
+// The number of a command's failure.
+fn fault_number(fault: Fault) -> usize
+    ensures { λ n. ⌜ n ≡ faultNumber fault ⌝ }
+{
+    match fault {
+        Fault::Present => 20,
+        Fault::Absent => 21,
+        Fault::Place => 22,
+        Fault::Number => 23,
+    }
+}
+
+// The number of a verdict and its values.
+fn put_values(place: &mut [u8], at: usize, v: Verdict) -> usize
+    requires { ⌜ at + most-values ≤ most-text ⌝ }
+    ensures { λ next. ⌜ Values (now (place .entry)) at (verdictNumbers v) (now (place .exit)) next ⌝ }
+{
+    match v {
+        Verdict::Broken(fault, step) => {
+            let next = put_spaced(place, at, fault_number(fault));
+            put_spaced(place, next, step)
+        }
+        Verdict::Elsewhere(commands) => {
+            let next = put_spaced(place, at, ELSEWHERE);
+            put_spaced(place, next, commands)
+        }
+        Verdict::Unordered(step, rule) => {
+            let mut next = put_spaced(place, at, UNORDERED);
+            next = put_spaced(place, next, step);
+            put_spaced(place, next, rule)
+        }
+        Verdict::NotFull => put_spaced(place, at, NOT_FULL),
+        Verdict::Safe => put_spaced(place, at, SAFE),
+    }
+}
+
+// "one line, as `verdict 30 1 2`, `verdict 22 5` or `verdict 32`"
+pub fn put_verdict(place: &mut [u8], v: Verdict) -> usize
+    ensures { λ next. ⌜ Whole (now (place .entry)) (verdictText v) (now (place .exit)) next ⌝ }
+{
+    let mut next = put_word(place, 0, b"verdict");
+    next = put_values(place, next, v);
+    put_word(place, next, b"\n")
+}

@@ -1,0 +1,32 @@
+// Prints, for each file that an argument names, its name and what `planlist` and `judgelist` print for it.
+
+use libc::STDOUT_FILENO;
+use listing::judge_text;
+use listing::plan_text;
+use streams::print;
+
+// Both texts of a file.
+fn print_texts(file: &[u8]) {
+    let mut place = io::large_buffer();
+    let planned = plan_text(file, &mut place);
+    print(&place, planned);
+    let judged = judge_text(file, &mut place);
+    print(&place, judged);
+}
+
+fn main() {
+    let count = os::arg_count();
+    let mut i = 1;
+    while i < count {
+        let mut name = io::buffer();
+        let n = os::arg(i, &mut name);
+        io::write_all(STDOUT_FILENO, &name[..n]);
+        io::write_all(STDOUT_FILENO, b"\n");
+        let fd = os::open_read(&name[..n]);
+        let mut file = io::large_buffer();
+        let got = io::read_full(fd, &mut file);
+        libc::close(fd);
+        print_texts(&file[..got]);
+        i += 1;
+    }
+}

@@ -1,0 +1,134 @@
+// Runs the writer on rows of cases and prints its answer to each: the refusal, or how many bytes were written, a checksum of them and
+// how they are read back; and whether every other byte is as it was. Each argument names a file with one row. A case: two bytes for the
+// size of the place, one that fills it, two that say whether there is a keep list and a script; then the five values, themselves a row.
+
+ghost use mathlib.Core.Path.{_≡_};
+ghost use Prim.Native.Nat.{_≤_};
+ghost use lib.ListN.{length};
+use cases::bytes_at;
+use cases::next_place;
+use cases::print_number;
+use cases::print_reading;
+use cases::print_refusal;
+use cases::read_row;
+use deployment::Written;
+use deployment::two;
+use libc::STDOUT_FILENO;
+use reader::Span;
+use reader::file::read;
+use reader::file::value;
+use writer::write;
+
+const HEAD_BYTES: usize = 5;
+
+fn filled(byte: u8) -> [u8; 65536]
+    ensures { λ r. ⌜ 65536 ≡ length r ⌝ }
+{
+    [byte; 65536]
+}
+
+fn is_filled(room: &[u8], byte: u8) -> bool {
+    let mut i = 0;
+    while i < room.len() {
+        if room[i] != byte {
+            return false;
+        }
+        i += 1;
+    }
+    true
+}
+
+fn print_kept(room: &[u8], byte: u8) {
+    if is_filled(room, byte) {
+        io::write_all(STDOUT_FILENO, b" kept");
+    } else {
+        io::write_all(STDOUT_FILENO, b" changed");
+    }
+}
+
+// One more byte of a checksum.
+fn summed(sum: u16, byte: u8) -> u16 {
+    ((sum as u32 * 257 + byte as u32) % 65521) as u16
+}
+
+fn checksum(bytes: &[u8]) -> u16 {
+    let mut sum = 1;
+    let mut i = 0;
+    while i < bytes.len() {
+        sum = summed(sum, bytes[i]);
+        i += 1;
+    }
+    sum
+}
+
+// The answer, and what was left in the room, whose first bytes are the place.
+fn print_answer(answer: Written, room: &[u8], byte: u8) {
+    match answer {
+        Written::Turned(refusal) => {
+            print_refusal(refusal);
+            print_kept(room, byte);
+            io::write_all(STDOUT_FILENO, b"\n");
+        }
+        Written::Bytes(n) => {
+            let size = room.len();
+            let written = value(room, Span { start: 0, size: n });
+            print_number(b"wrote ", n);
+            print_number(b" sum ", checksum(written) as usize);
+            print_kept(value(room, Span { start: n, size }), byte);
+            io::write_all(STDOUT_FILENO, b" ");
+            print_reading(read(written));
+        }
+    }
+}
+
+// What the writer answers to a case when the first bytes of the room are the place.
+fn tried(case: &[u8], room: &mut [u8]) -> Written
+    requires { ⌜ (5 ≤ length (now case)) × (65536 ≤ length (now room)) ⌝ }
+{
+    let size = two(case[0], case[1]) as usize;
+    let has_keep = case[3] == 1;
+    let has_script = case[4] == 1;
+    let initial = next_place(case, HEAD_BYTES);
+    let target = next_place(case, initial);
+    let keep = next_place(case, target);
+    let script = next_place(case, keep);
+    write(
+        bytes_at(case, HEAD_BYTES),
+        bytes_at(case, initial),
+        bytes_at(case, target),
+        has_keep,
+        bytes_at(case, keep),
+        has_script,
+        bytes_at(case, script),
+        &mut room[..size],
+    )
+}
+
+fn print_case(case: &[u8]) {
+    if case.len() < HEAD_BYTES {
+        return;
+    }
+    let byte = case[2];
+    let mut room = filled(byte);
+    let answer = tried(case, &mut room);
+    print_answer(answer, &room, byte);
+}
+
+fn print_row(row: &[u8]) {
+    let mut at = 0;
+    while at < row.len() {
+        print_case(bytes_at(row, at));
+        at = next_place(row, at);
+    }
+}
+
+fn main() {
+    let count = os::arg_count();
+    let mut i = 1;
+    while i < count {
+        let mut row = io::large_buffer();
+        let got = read_row(i, &mut row);
+        print_row(&row[..got]);
+        i += 1;
+    }
+}

@@ -1,0 +1,34 @@
+//! Brute force over small lists: all pairs of policies for the planners, all
+//! short scripts for the judge, each with every pattern of match and action.
+
+mod literal;
+mod plans;
+mod scripts;
+
+/// The script enumeration uses this many rules and commands.
+const SCRIPT_RULES: u16 = 3;
+const SCRIPT_COMMANDS: usize = 3;
+
+/// Stops with a description when something that must hold doesn't.
+type Held = Result<(), String>;
+
+fn must(holds: bool, say: impl FnOnce() -> String) -> Held {
+    if holds {
+        Ok(())
+    } else {
+        Err(say())
+    }
+}
+
+fn report(name: &str, outcome: Result<String, String>) -> bool {
+    match &outcome {
+        Ok(counts) => println!("{name}: {counts}"),
+        Err(fault) => println!("{name}: FAILS: {fault}"),
+    }
+    outcome.is_ok()
+}
+
+/// Runs everything, with policies over so many rules for the planners.
+pub fn run(rules: u16) -> bool {
+    report("plans", plans::test_all(rules)) & report("scripts", scripts::test_all(SCRIPT_RULES, SCRIPT_COMMANDS))
+}

@@ -1,0 +1,139 @@
+//! A deterministic maker of inputs: valid, damaged and adversarial files, and
+//! flows. The same seed and index always give the same bytes.
+
+mod damage;
+mod draft;
+mod random;
+mod rules;
+mod scripts;
+mod values;
+
+use crate::policy::Flow;
+use damage::Field;
+use draft::Draft;
+use random::Random;
+
+pub use rules::plain_rule;
+pub use values::MadeValues;
+
+const FLOWS: u64 = 0x666c_6f77;
+const VALUES: u64 = 0x7661_6c75;
+
+/// The input with this index.
+pub fn make(seed: u64, index: u64) -> Vec<u8> {
+    let random = &mut Random::new(seed, index);
+    match random.below(100) {
+        0..=54 => damage::join(&draft_with_script(random).fields()),
+        55..=82 => damaged_fields(random),
+        83..=94 => damaged_bytes(random),
+        95..=98 => damage::join(&at_the_limits(random)),
+        _ => random.bytes(64),
+    }
+}
+
+fn draft_with_script(random: &mut Random) -> Draft {
+    let mut draft = Draft::new(random);
+    draft.script = scripts::any(random, &draft);
+    draft
+}
+
+/// One damage made for one refusal; sometimes a second one, to test which is met first.
+fn damaged(random: &mut Random) -> Vec<Field> {
+    let mut fields = draft_with_script(random).fields();
+    damage::one_field(random, &mut fields);
+    if random.one_in(4) {
+        damage::one_field(random, &mut fields);
+    }
+    fields
+}
+
+fn damaged_fields(random: &mut Random) -> Vec<u8> {
+    let mut bytes = damage::join(&damaged(random));
+    if random.one_in(8) {
+        damage::cut(random, &mut bytes);
+    }
+    bytes
+}
+
+/// Damage that knows nothing of fields.
+fn damaged_bytes(random: &mut Random) -> Vec<u8> {
+    let mut bytes = damage::join(&draft_with_script(random).fields());
+    for _ in 0..=random.below(3) {
+        damage::any_bytes(random, &mut bytes);
+    }
+    bytes
+}
+
+/// Files at and just over the limits of rules, numbers and commands.
+fn at_the_limits(random: &mut Random) -> Vec<Field> {
+    let over = random.one_in(2);
+    match random.below(4) {
+        0 | 1 => draft::full_catalogue(random, over),
+        2 => draft::full_policies(random, over),
+        _ => draft::full_script(random, over),
+    }
+}
+
+/// The field values with this index, for the entries that take lists.
+pub fn values(seed: u64, index: u64) -> MadeValues {
+    let random = &mut Random::new(seed ^ VALUES, index);
+    let fields = match random.below(100) {
+        0..=49 => draft_with_script(random).fields(),
+        50..=95 => damaged(random),
+        _ => at_the_limits(random),
+    };
+    values::gather(random, &fields)
+}
+
+/// The flow with this index, near the values that the made rules favour.
+pub fn flow(seed: u64, index: u64) -> Flow {
+    rules::any_flow(&mut Random::new(seed ^ FLOWS, index))
+}
+
+/// The flow with this index at or next to the range ends of one of the rules.
+pub fn flow_near(rules: &[&[u8]], seed: u64, index: u64) -> Flow {
+    let random = &mut Random::new(seed ^ FLOWS, index);
+    if rules.is_empty() {
+        return rules::any_flow(random);
+    }
+    let rule = rules[random.below(rules.len())];
+    rules::flow_near(random, rule)
+}
+
+#[cfg(test)]
+mod tests {
+    use super::*;
+    use crate::text::{judge_text, plan_text};
+    use std::collections::HashMap;
+
+    #[test]
+    fn the_same_index_gives_the_same_bytes() {
+        for index in 0..200 {
+            assert_eq!(make(5, index), make(5, index));
+            assert_eq!(flow(5, index), flow(5, index));
+        }
+    }
+
+    #[test]
+    fn every_outcome_occurs_often() {
+        let mut counts: HashMap<String, usize> = HashMap::new();
+        for index in 0..4000 {
+            let text = judge_text(&make(1, index));
+            let outcome = text.split_whitespace().take(2).collect::<Vec<_>>().join(" ");
+            *counts.entry(outcome).or_default() += 1;
+        }
+        let refusals = (1..=12).map(|number| format!("refused {number}"));
+        let verdicts = (20..=24).chain(30..=32).map(|number| format!("verdict {number}"));
+        for outcome in refusals.chain(verdicts) {
+            let count = counts.get(&outcome).copied().unwrap_or(0);
+            assert!(count >= 20, "{outcome} occurs {count} times");
+        }
+    }
+
+    #[test]
+    fn some_files_are_at_the_limits() {
+        let texts: Vec<String> = (0..4000).map(|index| plan_text(&make(1, index))).collect();
+        assert!(texts.iter().any(|text| text.starts_with("type 1 initial 512 target 512 ")));
+        assert!(texts.iter().any(|text| text.starts_with("refused 7 at 30720")));
+    }
+}

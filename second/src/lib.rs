@@ -1,0 +1,15 @@
+//! A second implementation of document 01, written from the document alone.
+//! It serves as the other side of comparisons and as a yardstick for speed.
+
+pub mod answers;
+pub mod brute;
+pub mod commands;
+pub mod compare;
+pub mod file;
+pub mod inputs;
+pub mod judge;
+pub mod plan;
+pub mod policy;
+pub mod replay;
+pub mod text;
+pub mod vectors;

@@ -1,0 +1,89 @@
+//! The command line: `second planlist`, `judgelist`, `vectors`, `brute`,
+//! `inputs` and `compare`; see README.md.
+
+use second::{brute, compare, inputs, text, vectors};
+use std::error::Error;
+use std::io::{self, Read, Write};
+use std::path::Path;
+use std::process::ExitCode;
+
+type Outcome = Result<bool, Box<dyn Error>>;
+
+const USAGE: &str = "\
+usage: second planlist < FILE
+       second judgelist < FILE
+       second vectors FOLDER
+       second brute [--rules N]
+       second inputs --seed N --count K --dir FOLDER
+       second compare --seed N --count K [--planlist COMMAND --judgelist COMMAND]
+";
+
+/// The value after `--name`, if it is given.
+fn option<'a>(arguments: &'a [String], name: &str) -> Option<&'a str> {
+    let at = arguments.iter().position(|argument| argument == name)?;
+    arguments.get(at + 1).map(String::as_str)
+}
+
+fn number(arguments: &[String], name: &str, otherwise: u64) -> Result<u64, Box<dyn Error>> {
+    match option(arguments, name) {
+        Some(digits) => digits.parse().map_err(|_| format!("{name} takes a number").into()),
+        None => Ok(otherwise),
+    }
+}
+
+fn print_text(text_of: fn(&[u8]) -> String) -> Outcome {
+    let mut file = Vec::new();
+    io::stdin().read_to_end(&mut file)?;
+    io::stdout().write_all(text_of(&file).as_bytes())?;
+    Ok(true)
+}
+
+fn run_vectors(arguments: &[String]) -> Outcome {
+    let folder = arguments.first().ok_or(USAGE)?;
+    Ok(vectors::run(Path::new(folder))?)
+}
+
+fn write_inputs(arguments: &[String]) -> Outcome {
+    let folder = Path::new(option(arguments, "--dir").ok_or(USAGE)?);
+    let seed = number(arguments, "--seed", 1)?;
+    std::fs::create_dir_all(folder)?;
+    for index in 0..number(arguments, "--count", 100)? {
+        std::fs::write(folder.join(format!("{seed}-{index:06}.bin")), inputs::make(seed, index))?;
+    }
+    Ok(true)
+}
+
+fn run_compare(arguments: &[String]) -> Outcome {
+    let programs = match (option(arguments, "--planlist"), option(arguments, "--judgelist")) {
+        (Some(planlist), Some(judgelist)) => Some(compare::Programs::new(planlist, judgelist)),
+        (None, None) => None,
+        _ => return Err("--planlist and --judgelist go together".into()),
+    };
+    let (seed, count) = (number(arguments, "--seed", 1)?, number(arguments, "--count", 1000)?);
+    Ok(compare::run(seed, count, programs.as_ref())?)
+}
+
+fn run(arguments: &[String]) -> Outcome {
+    let (name, rest) = arguments.split_first().ok_or(USAGE)?;
+    match name.as_str() {
+        "planlist" => print_text(text::plan_text),
+        "judgelist" => print_text(text::judge_text),
+        "vectors" => run_vectors(rest),
+        "brute" => Ok(brute::run(number(rest, "--rules", 4)? as u16)),
+        "inputs" => write_inputs(rest),
+        "compare" => run_compare(rest),
+        _ => Err(USAGE.into()),
+    }
+}
+
+fn main() -> ExitCode {
+    let arguments: Vec<String> = std::env::args().skip(1).collect();
+    match run(&arguments) {
+        Ok(true) => ExitCode::SUCCESS,
+        Ok(false) => ExitCode::FAILURE,
+        Err(error) => {
+            eprintln!("{error}");
+            ExitCode::FAILURE
+        }
+    }
+}
