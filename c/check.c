@@ -226,6 +226,29 @@ static void check_judge_file(void) {
     told("judge 30", pageoriole_judge_file(FILE_MADE, ANSWER), PAGEORIOLE_UNORDERED, VALUES(1, 2));
 }
 
+#define TEXT(words) (const uint8_t *)words, sizeof words - 1
+
+static void check_text(void) {
+    first_example();
+    told("plan's text", pageoriole_plan_text(FILE_MADE, PLACE, ANSWER), PAGEORIOLE_DONE, VALUES(164));
+    holds("plan's text", TEXT("type 1 initial 4 target 4 kept 1 commands 6\n1 del 3\n2 del 2\n3 del 0\n4 app 0\n5 app 4\n6 app 3\n"
+                              "type 2 initial 4 target 4 kept 2 commands 3\n1 ins 3 4\n2 del 4\n3 mov 1 2\n"));
+    told("plan's text, 13", pageoriole_plan_text(made, made_size, place, 163, ANSWER), PAGEORIOLE_ROOM, VALUES(164));
+    holds("plan's text, 13", NOTHING);
+    told("judge's text, 12", pageoriole_judge_text(FILE_MADE, PLACE, ANSWER), PAGEORIOLE_DONE, VALUES(18));
+    holds("judge's text, 12", TEXT("refused 12 at 172\n"));
+    catalogue(4);
+    field(2, I1);
+    field(3, T30);
+    field(5, SCRIPT_30);
+    told("judge's text, 30", pageoriole_judge_text(FILE_MADE, PLACE, ANSWER), PAGEORIOLE_DONE, VALUES(15));
+    holds("judge's text, 30", TEXT("verdict 30 1 2\n"));
+    told("judge's text, 13", pageoriole_judge_text(made, made_size, place, 14, ANSWER), PAGEORIOLE_ROOM, VALUES(15));
+    holds("judge's text, 13", NOTHING);
+    told("plan's text, 3", pageoriole_plan_text(NOTHING, PLACE, ANSWER), PAGEORIOLE_DONE, VALUES(15));
+    holds("plan's text, 3", TEXT("refused 3 at 0\n"));
+}
+
 /* ---- field values ---- */
 
 /* What is lent for an absent keep list or script, and must not be looked at. */
@@ -383,6 +406,7 @@ int main(void) {
     check_replay_file();
     check_plan_file();
     check_judge_file();
+    check_text();
     check_check();
     check_write();
     check_decide_values();

@@ -38,16 +38,24 @@ static void print_plan(planner *plan, size_t size, size_t initial, size_t target
     for (size_t k = 0; k < commands; k++) print_command(k + 1, place + FIELD_HEAD + TYPE_BYTE + COMMAND * k);
 }
 
+/* How many values belong to a fault or a verdict. */
+static int values_of(uint32_t number) {
+    switch (number) {
+    case PAGEORIOLE_UNORDERED: return 2;
+    case PAGEORIOLE_NOT_FULL:
+    case PAGEORIOLE_SAFE: return 0;
+    default: return 1;
+    }
+}
+
 static void print_verdict(size_t size) {
-    static const int values[] = {[PAGEORIOLE_ELSEWHERE] = 1, [PAGEORIOLE_UNORDERED] = 2, [PAGEORIOLE_NOT_FULL] = 0, [PAGEORIOLE_SAFE] = 0};
     uint32_t number = pageoriole_judge_file(file, size, answer, PAGEORIOLE_ANSWER);
     if (number <= PAGEORIOLE_ROOM) {
         print_refusal(number);
         return;
     }
-    int count = number <= PAGEORIOLE_NUMBER ? 1 : values[number];
     printf("verdict %u", number);
-    for (int k = 0; k < count; k++) printf(" %llu", (unsigned long long)answer[k]);
+    for (int k = 0; k < values_of(number); k++) printf(" %llu", (unsigned long long)answer[k]);
     printf("\n");
 }
 

@@ -70,7 +70,8 @@ enum pageoriole_limit {
     PAGEORIOLE_COMMANDS = 2048,  /* commands in a script */
     PAGEORIOLE_FILE = 44045,     /* bytes: the longest file that is accepted, so the longest that is written */
     PAGEORIOLE_PLAN = 5124,      /* bytes: the longest script field that a planner writes */
-    PAGEORIOLE_LIST = 2048       /* bytes: the longest list that a replay writes */
+    PAGEORIOLE_LIST = 2048,      /* bytes: the longest list that a replay writes */
+    PAGEORIOLE_TEXT = 65536      /* bytes: no text is longer */
 };
 
 /* The values of the fields of a deployment file.
@@ -159,6 +160,15 @@ uint32_t pageoriole_judge_file(const uint8_t *file, size_t file_size, uint64_t *
 uint32_t pageoriole_judge(const uint8_t *rules, size_t rules_size, const uint8_t *initial, size_t initial_size, const uint8_t *target,
                           size_t target_size, bool has_keep, const uint8_t *keep, size_t keep_size, const uint8_t *script, size_t script_size,
                           uint64_t *answer, size_t answer_words);
+
+/* ---- Texts ---- */
+
+/* What `planlist` prints for the file, written into `place`: both plans, or the refusal's line. DONE: the bytes written, also where the text
+ * is that of a refusal. Refusal: 13. */
+uint32_t pageoriole_plan_text(const uint8_t *file, size_t file_size, uint8_t *place, size_t place_size, uint64_t *answer, size_t answer_words);
+
+/* What `judgelist` prints for the file: the verdict's line, or the refusal's. */
+uint32_t pageoriole_judge_text(const uint8_t *file, size_t file_size, uint8_t *place, size_t place_size, uint64_t *answer, size_t answer_words);
 
 #ifdef __cplusplus
 }

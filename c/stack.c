@@ -10,7 +10,7 @@ enum { GOAL = 32 * 1024, STACK = 1024 * 1024, PAINT = 0xa5, LIST = 2 * PAGEORIOL
 
 static _Alignas(16) uint8_t stack[STACK];
 static uint8_t rules[PAGEORIOLE_RULES * PAGEORIOLE_RULE];
-static uint8_t place[PAGEORIOLE_FILE];
+static uint8_t place[PAGEORIOLE_TEXT];
 static uint64_t answer[PAGEORIOLE_ANSWER];
 
 /* One input: policies, keep list and script as field values, and the file of them. */
@@ -129,6 +129,8 @@ static void plan_two_file(void) { number = pageoriole_plan_two_file(FILE_NOW, PL
 static void plan_one(void) { number = pageoriole_plan_one(VALUES, true, SCRIPT_NOW, PLACE, ANSWER); }
 static void plan_two(void) { number = pageoriole_plan_two(VALUES, true, SCRIPT_NOW, PLACE, ANSWER); }
 static void judge_file(void) { number = pageoriole_judge_file(FILE_NOW, ANSWER); }
+static void plan_text(void) { number = pageoriole_plan_text(FILE_NOW, PLACE, ANSWER); }
+static void judge_text(void) { number = pageoriole_judge_text(FILE_NOW, PLACE, ANSWER); }
 static void judge(void) { number = pageoriole_judge(VALUES, SCRIPT_NOW, ANSWER); }
 
 /* Calls a function with the stack pointer at the end of the painted stack. */
@@ -166,7 +168,9 @@ int main(void) {
                  {"pageoriole_plan_one", plan_one},
                  {"pageoriole_plan_two", plan_two},
                  {"pageoriole_judge_file", judge_file},
-                 {"pageoriole_judge", judge}};
+                 {"pageoriole_judge", judge},
+                 {"pageoriole_plan_text", plan_text},
+                 {"pageoriole_judge_text", judge_text}};
     const struct input *inputs[] = {&disjoint, &reversed, &same};
     size_t most = 0;
     bool accepted = true;

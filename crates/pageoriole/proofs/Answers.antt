@@ -12,6 +12,8 @@ use Rattle.pageoriole.proofs.files.pageoriole_replay_file.Reads as repl
 use Rattle.pageoriole.proofs.files.pageoriole_plan_one_file.Reads as plan-one-file
 use Rattle.pageoriole.proofs.files.pageoriole_plan_two_file.Reads as plan-two-file
 use Rattle.pageoriole.proofs.files.pageoriole_judge_file.Reads as judge-file
+use Rattle.pageoriole.proofs.files.pageoriole_plan_text.Reads as plan-text
+use Rattle.pageoriole.proofs.files.pageoriole_judge_text.Reads as judge-text
 use Rattle.pageoriole.proofs.lists.pageoriole_check.Reads as check
 use Rattle.pageoriole.proofs.lists.pageoriole_write.Reads as write
 use Rattle.pageoriole.proofs.lists.pageoriole_decide.Reads as decide
@@ -57,6 +59,14 @@ one-plan-two-file κ a r s e f p q = one-left p q
 pub one-judge-file : (κ : _) (a : _) (r s : ℕ) (e f : _) → judge-file.Post κ a r e → judge-file.Post κ a s f
     → (r ≡ s) × (now (e .1 .0) ≡ now (f .1 .0))
 one-judge-file κ a r s e f p q = one-told p q
+
+pub one-plan-text : (κ : _) (a : _) (r s : ℕ) (e f : _) → plan-text.Post κ a r e → plan-text.Post κ a s f
+    → (r ≡ s) × (now (e .1 .1 .0) ≡ now (f .1 .1 .0)) × (now (e .1 .0) ≡ now (f .1 .0))
+one-plan-text κ a r s e f p q = one-left p q
+
+pub one-judge-text : (κ : _) (a : _) (r s : ℕ) (e f : _) → judge-text.Post κ a r e → judge-text.Post κ a s f
+    → (r ≡ s) × (now (e .1 .1 .0) ≡ now (f .1 .1 .0)) × (now (e .1 .0) ≡ now (f .1 .0))
+one-judge-text κ a r s e f p q = one-left p q
 
 pub one-check : (κ : _) (a : _) (r s : ℕ) (e f : _) → check.Post κ a r e → check.Post κ a s f
     → (r ≡ s) × (now (e .1 .1 .1 .1 .1 .1 .1 .0) ≡ now (f .1 .1 .1 .1 .1 .1 .1 .0))

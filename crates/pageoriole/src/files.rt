@@ -1,17 +1,20 @@
 // Over a deployment file: each entry as a function that C can call. The number is returned, its values stand in `answer`.
 
 ghost use Rattle.deployment.specs.File.{readFile, readToJudge};
+ghost use Rattle.deployment.specs.FieldValues.{writing};
 ghost use Rattle.reader.specs.Answers.{shown, fileRead};
 ghost use Rattle.planner.specs.Plans.{planned, madeOne, madeTwo};
 ghost use Rattle.judge.specs.Answers.{judgedReading};
 ghost use Rattle.entries.specs.Answers.{decidedReading, replayedReading};
-ghost use Rattle.pageoriole.specs.Answers.{Tells, Leaves, readTold, decidedTold, judgedTold, replayOutcome, planOutcome, flowOf};
+ghost use Rattle.listing.specs.Text.{planPrinted, judgePrinted};
+ghost use Rattle.pageoriole.specs.Answers.{Tells, Leaves, readTold, decidedTold, judgedTold, writeOutcome, replayOutcome, planOutcome, flowOf};
 use super::told::decided_told;
 use super::told::judged_told;
 use super::told::planned_told;
 use super::told::ran_told;
 use super::told::read_told;
 use super::told::tell;
+use super::told::written_told;
 use entries::files::decide;
 use entries::files::judge;
 use entries::files::plan_one;
@@ -19,6 +22,8 @@ use entries::files::plan_two;
 use entries::files::read;
 use entries::files::read_to_judge;
 use entries::files::replay;
+use listing::judge_text;
+use listing::plan_text;
 use policy::Flow;
 
 // Reads a file: rules; start and size of initial and target policy; whether there is a keep list, its start and size; and so for the script.
@@ -120,5 +125,33 @@ pub extern "C" fn pageoriole_judge_file(file: &[u8], answer: &mut [u64]) -> u32
 {
     let found = judge(file);
     let words = judged_told(found);
+    tell(words, answer)
+}
+
+// What `planlist` prints for the file, in the first bytes of `place`: bytes. A file that is turned away has a text too.
+#[no_mangle]
+pub extern "C" fn pageoriole_plan_text(file: &[u8], place: &mut [u8], answer: &mut [u64]) -> u32
+    ensures { λ n. ⌜
+        Leaves
+        (writeOutcome (writing (planPrinted (now (file .entry))) (now (place .entry))))
+        n (now (answer .entry)) (now (answer .exit)) (now (place .exit))
+        ⌝ }
+{
+    let found = plan_text(file, place);
+    let words = written_told(found);
+    tell(words, answer)
+}
+
+// What `judgelist` prints for the file.
+#[no_mangle]
+pub extern "C" fn pageoriole_judge_text(file: &[u8], place: &mut [u8], answer: &mut [u64]) -> u32
+    ensures { λ n. ⌜
+        Leaves
+        (writeOutcome (writing (judgePrinted (now (file .entry))) (now (place .entry))))
+        n (now (answer .entry)) (now (answer .exit)) (now (place .exit))
+        ⌝ }
+{
+    let found = judge_text(file, place);
+    let words = written_told(found);
     tell(words, answer)
 }

@@ -43,7 +43,7 @@ const MOST_VALUES: usize = 11;
 
 // A number and the first `count` of the values.
 pub struct Words {
-    pub values: [u64; 11],
+    pub values: [u64; MOST_VALUES],
     pub count: usize,
     pub number: u32,
 }
@@ -52,7 +52,7 @@ fn none(number: u32) -> Words
     ensures { λ w. ⌜ shownWords w ≡ told number [] ⌝ }
 {
     Words {
-        values: [0; 11],
+        values: [0; MOST_VALUES],
         count: 0,
         number,
     }
