@@ -1,0 +1,418 @@
+/* Calls every function of the library on inputs whose answers stand in document 01: its examples and the rows of its tables. The inputs are
+ * made here by hand. Prints what differs and the number of checks. */
+#include <stdio.h>
+#include <string.h>
+
+#include "pageoriole.h"
+
+enum { WORDS = PAGEORIOLE_ANSWER + 1, ROOM = 64 * 1024, RULE_FIELD = 30 };
+
+#define FILL_WORD 0xa5a5a5a5a5a5a5a5u
+#define FILL_BYTE 0xa5
+#define BYTES(...) ((const uint8_t[]){__VA_ARGS__}), sizeof((const uint8_t[]){__VA_ARGS__})
+#define NOTHING NULL, (size_t)0
+#define VALUES(...) ((const uint64_t[]){__VA_ARGS__}), sizeof((const uint64_t[]){__VA_ARGS__}) / sizeof(uint64_t)
+#define ANSWER answer, (size_t)WORDS
+#define PLACE place, sizeof place
+#define FILE_MADE made, made_size
+
+static uint64_t answer[WORDS];
+static uint8_t place[ROOM];
+static unsigned checks, wrong;
+
+static void expect(const char *what, const char *part, uint64_t got, uint64_t wanted) {
+    checks++;
+    if (got != wanted) {
+        wrong++;
+        printf("%s: %s is %llu, not %llu\n", what, part, (unsigned long long)got, (unsigned long long)wanted);
+    }
+}
+
+/* The lent places before each call. */
+static void ready(void) {
+    for (size_t k = 0; k < WORDS; k++) answer[k] = FILL_WORD;
+    memset(place, FILL_BYTE, sizeof place);
+}
+
+/* The number and every word of the answer. */
+static void compare(const char *what, uint32_t number, uint32_t wanted, const uint64_t *values, size_t count) {
+    expect(what, "the number", number, wanted);
+    for (size_t k = 0; k < WORDS; k++) expect(what, "a word of the answer", answer[k], k < count ? values[k] : FILL_WORD);
+}
+
+/* Makes a call with the lent places ready, and compares what it tells. */
+#define told(what, call, ...) (ready(), compare(what, call, __VA_ARGS__))
+
+/* Every byte of the place, after that call. */
+static void holds(const char *what, const uint8_t *bytes, size_t count) {
+    size_t other = 0;
+    for (size_t k = 0; k < sizeof place; k++) other += place[k] != (k < count ? bytes[k] : FILL_BYTE);
+    expect(what, "the number of wrong bytes in the place", other, 0);
+}
+
+/* ---- inputs made by hand ---- */
+
+static uint8_t made[ROOM];
+static size_t made_size;
+static uint8_t rules[(PAGEORIOLE_RULES + 1) * PAGEORIOLE_RULE];
+
+/* Rule k: action by k's last bit (even permits), protocol k % 256, source port from k / 256 on, all else full. */
+static void make_rules(void) {
+    static const uint8_t full[PAGEORIOLE_RULE] = {[7] = 255, [8] = 255, [9] = 255, [10] = 255, [13] = 255, [14] = 255,
+                                                  [19] = 255, [20] = 255, [21] = 255, [22] = 255, [25] = 255, [26] = 255};
+    for (size_t k = 0; k <= PAGEORIOLE_RULES; k++) {
+        uint8_t *rule = rules + k * PAGEORIOLE_RULE;
+        memcpy(rule, full, sizeof full);
+        rule[0] = (uint8_t)(1 - k % 2);
+        rule[1] = rule[2] = (uint8_t)(k % 256);
+        rule[11] = (uint8_t)(k / 256);
+    }
+}
+
+static void begin(void) { made_size = 0; }
+
+static void field(uint8_t tag, const uint8_t *value, size_t size) {
+    made[made_size++] = tag;
+    made[made_size++] = (uint8_t)(size / 256);
+    made[made_size++] = (uint8_t)(size % 256);
+    if (size != 0) memcpy(made + made_size, value, size);
+    made_size += size;
+}
+
+static void catalogue(size_t count) {
+    begin();
+    for (size_t k = 0; k < count; k++) field(1, rules + k * PAGEORIOLE_RULE, PAGEORIOLE_RULE);
+}
+
+/* Document 01's first example: I = 0 1 2 3, T = 1 0 4 3, five rules. */
+#define FIVE rules, (size_t)(5 * PAGEORIOLE_RULE)
+#define THREE rules, (size_t)(3 * PAGEORIOLE_RULE)
+#define TWO rules, (size_t)(2 * PAGEORIOLE_RULE)
+#define I1 BYTES(0, 0, 0, 1, 0, 2, 0, 3)
+#define T1 BYTES(0, 1, 0, 0, 0, 4, 0, 3)
+#define PLAN_ONE BYTES(5, 0, 31, 1, 2, 0, 3, 0, 0, 2, 0, 2, 0, 0, 2, 0, 0, 0, 0, 1, 0, 0, 0, 0, 1, 0, 4, 0, 0, 1, 0, 3, 0, 0)
+#define PLAN_TWO BYTES(5, 0, 16, 2, 3, 0, 3, 0, 4, 4, 0, 4, 0, 0, 5, 0, 1, 0, 2)
+#define SCRIPT_ONE BYTES(1, 2, 0, 3, 0, 0, 2, 0, 2, 0, 0, 2, 0, 0, 0, 0, 1, 0, 0, 0, 0, 1, 0, 4, 0, 0, 1, 0, 3, 0, 0)
+#define SCRIPT_TWO BYTES(2, 3, 0, 3, 0, 4, 4, 0, 4, 0, 0, 5, 0, 1, 0, 2)
+/* Its third: I = 0 1 2, T = 2 0 1. */
+#define I3 BYTES(0, 0, 0, 1, 0, 2)
+#define T3 BYTES(0, 2, 0, 0, 0, 1)
+/* The script of verdict 30, for I and its target 1 0 2 3. */
+#define T30 BYTES(0, 1, 0, 0, 0, 2, 0, 3)
+#define SCRIPT_30                                                                                                                              \
+    BYTES(1, 2, 0, 1, 0, 0, 1, 0, 1, 0, 0, 2, 0, 0, 0, 0, 1, 0, 0, 0, 0, 2, 0, 2, 0, 0, 1, 0, 2, 0, 0, 2, 0, 3, 0, 0, 1, 0, 3, 0, 0)
+
+static void first_example(void) {
+    catalogue(5);
+    field(2, I1);
+    field(3, T1);
+}
+
+/* ---- files ---- */
+
+static void read_as(const char *what, uint32_t number, const uint64_t *values, size_t count) {
+    told(what, pageoriole_read(FILE_MADE, ANSWER), number, values, count);
+}
+
+static void check_read(void) {
+    first_example();
+    read_as("read, first example", PAGEORIOLE_DONE, VALUES(5, 153, 8, 164, 8, 0, 0, 0, 0, 0, 0));
+    told("read for the judge, first example", pageoriole_read_to_judge(FILE_MADE, ANSWER), PAGEORIOLE_NO_SCRIPT, VALUES(172));
+    field(4, NOTHING);
+    field(5, SCRIPT_TWO);
+    read_as("read, all fields", PAGEORIOLE_DONE, VALUES(5, 153, 8, 164, 8, 1, 175, 0, 1, 178, 16));
+    told("read for the judge, all fields", pageoriole_read_to_judge(FILE_MADE, ANSWER), PAGEORIOLE_DONE,
+         VALUES(5, 153, 8, 164, 8, 1, 175, 0, 1, 178, 16));
+    made[made_size++] = 9;
+    read_as("read 1, one byte behind the script", PAGEORIOLE_CUT, VALUES(194));
+    told("read, four words of room", pageoriole_read(made, 194, answer, 4), PAGEORIOLE_DONE, VALUES(5, 153, 8, 164));
+    told("read, no room", pageoriole_read(made, 194, NULL, 0), PAGEORIOLE_DONE, NULL, 0);
+    first_example();
+    made_size -= 1;
+    read_as("read 1, a value cut off", PAGEORIOLE_CUT, VALUES(161));
+    begin();
+    read_as("read 3, the empty file", PAGEORIOLE_NO_TARGET, VALUES(0));
+    told("read 3, the empty file at no address", pageoriole_read(NOTHING, ANSWER), PAGEORIOLE_NO_TARGET, VALUES(0));
+    field(3, NOTHING);
+    read_as("read 2", PAGEORIOLE_TAG, VALUES(0));
+    catalogue(1);
+    field(2, BYTES(0));
+    read_as("read 4", PAGEORIOLE_LENGTH, VALUES(30));
+    catalogue(2);
+    made[RULE_FIELD + 3] = 2;
+    read_as("read 5", PAGEORIOLE_BOUNDS, VALUES(30));
+    catalogue(2);
+    field(1, rules, PAGEORIOLE_RULE);
+    read_as("read 6", PAGEORIOLE_EQUAL, VALUES(60));
+    catalogue(PAGEORIOLE_RULES);
+    field(2, NOTHING);
+    field(3, NOTHING);
+    read_as("read, 1,024 rules", PAGEORIOLE_DONE, VALUES(1024, 30723, 0, 30726, 0, 0, 0, 0, 0, 0, 0));
+    catalogue(PAGEORIOLE_RULES + 1);
+    read_as("read 7", PAGEORIOLE_TOO_MANY, VALUES(30720));
+    catalogue(2);
+    field(2, BYTES(0, 2));
+    read_as("read 8", PAGEORIOLE_OUTSIDE, VALUES(60));
+    catalogue(2);
+    field(2, BYTES(0, 1, 0, 1));
+    read_as("read 9", PAGEORIOLE_TWICE, VALUES(60));
+    catalogue(3);
+    field(2, I3);
+    field(3, T3);
+    field(4, BYTES(0, 1, 0, 0));
+    read_as("read 10", PAGEORIOLE_KEEP, VALUES(108));
+    first_example();
+    field(5, BYTES(1, 3, 0, 1, 0, 1));
+    read_as("read 11", PAGEORIOLE_CODING, VALUES(172));
+}
+
+static void check_decide_file(void) {
+    first_example();
+    told("decide by the initial policy", pageoriole_decide_file(FILE_MADE, false, 2, 0, 0, 0, 0, ANSWER), PAGEORIOLE_DONE, VALUES(1, 3));
+    told("decide by the target", pageoriole_decide_file(FILE_MADE, true, 4, 0, 0, 0, 0, ANSWER), PAGEORIOLE_DONE, VALUES(1, 3));
+    told("decide by a rule that denies", pageoriole_decide_file(FILE_MADE, true, 3, 0, 0, 0, 0, ANSWER), PAGEORIOLE_DONE, VALUES(0, 4));
+    told("decide by the default", pageoriole_decide_file(FILE_MADE, true, 2, 0, 0, 0, 0, ANSWER), PAGEORIOLE_DONE, VALUES(0, 0));
+    told("decide in a file turned away", pageoriole_decide_file(made, 160, true, 2, 0, 0, 0, 0, ANSWER), PAGEORIOLE_CUT, VALUES(150));
+}
+
+static void check_replay_file(void) {
+    first_example();
+    told("replay 12", pageoriole_replay_file(FILE_MADE, PLACE, ANSWER), PAGEORIOLE_NO_SCRIPT, VALUES(172));
+    holds("replay 12", NOTHING);
+    field(5, SCRIPT_TWO);
+    told("replay to the target", pageoriole_replay_file(FILE_MADE, PLACE, ANSWER), PAGEORIOLE_DONE, VALUES(8));
+    holds("replay to the target", T1);
+    told("replay 13", pageoriole_replay_file(FILE_MADE, place, 7, ANSWER), PAGEORIOLE_ROOM, VALUES(8));
+    holds("replay 13", NOTHING);
+    first_example();
+    field(5, BYTES(2, 5, 0, 1, 0, 1, 5, 0, 4, 0, 5));
+    told("replay 22", pageoriole_replay_file(FILE_MADE, PLACE, ANSWER), PAGEORIOLE_PLACE, VALUES(2));
+    holds("replay 22", NOTHING);
+}
+
+static void check_plan_file(void) {
+    first_example();
+    told("plan of type 1", pageoriole_plan_one_file(FILE_MADE, PLACE, ANSWER), PAGEORIOLE_DONE, VALUES(1, 6, 34));
+    holds("plan of type 1", PLAN_ONE);
+    told("plan of type 2", pageoriole_plan_two_file(FILE_MADE, PLACE, ANSWER), PAGEORIOLE_DONE, VALUES(2, 3, 19));
+    holds("plan of type 2", PLAN_TWO);
+    told("plan of type 1, 13", pageoriole_plan_one_file(FILE_MADE, place, 33, ANSWER), PAGEORIOLE_ROOM, VALUES(34));
+    holds("plan of type 1, 13", NOTHING);
+    told("plan of type 2, 13", pageoriole_plan_two_file(FILE_MADE, place, 18, ANSWER), PAGEORIOLE_ROOM, VALUES(19));
+    holds("plan of type 2, 13", NOTHING);
+    catalogue(3);
+    field(2, I3);
+    field(3, T3);
+    field(4, BYTES(0, 0, 0, 1));
+    told("plan with a keep list", pageoriole_plan_two_file(FILE_MADE, PLACE, ANSWER), PAGEORIOLE_DONE, VALUES(2, 1, 9));
+    holds("plan with a keep list", BYTES(5, 0, 6, 2, 5, 0, 3, 0, 1));
+}
+
+static void check_judge_file(void) {
+    first_example();
+    told("judge 12", pageoriole_judge_file(FILE_MADE, ANSWER), PAGEORIOLE_NO_SCRIPT, VALUES(172));
+    field(5, SCRIPT_ONE);
+    told("judge 31", pageoriole_judge_file(FILE_MADE, ANSWER), PAGEORIOLE_NOT_FULL, NULL, 0);
+    first_example();
+    field(5, SCRIPT_TWO);
+    told("judge 32", pageoriole_judge_file(FILE_MADE, ANSWER), PAGEORIOLE_SAFE, NULL, 0);
+    first_example();
+    field(5, BYTES(1));
+    told("judge 24", pageoriole_judge_file(FILE_MADE, ANSWER), PAGEORIOLE_ELSEWHERE, VALUES(0));
+    catalogue(4);
+    field(2, I1);
+    field(3, T30);
+    field(5, SCRIPT_30);
+    told("judge 30", pageoriole_judge_file(FILE_MADE, ANSWER), PAGEORIOLE_UNORDERED, VALUES(1, 2));
+}
+
+#define TEXT(words) (const uint8_t *)words, sizeof words - 1
+
+static void check_text(void) {
+    first_example();
+    told("plan's text", pageoriole_plan_text(FILE_MADE, PLACE, ANSWER), PAGEORIOLE_DONE, VALUES(164));
+    holds("plan's text", TEXT("type 1 initial 4 target 4 kept 1 commands 6\n1 del 3\n2 del 2\n3 del 0\n4 app 0\n5 app 4\n6 app 3\n"
+                              "type 2 initial 4 target 4 kept 2 commands 3\n1 ins 3 4\n2 del 4\n3 mov 1 2\n"));
+    told("plan's text, 13", pageoriole_plan_text(made, made_size, place, 163, ANSWER), PAGEORIOLE_ROOM, VALUES(164));
+    holds("plan's text, 13", NOTHING);
+    told("judge's text, 12", pageoriole_judge_text(FILE_MADE, PLACE, ANSWER), PAGEORIOLE_DONE, VALUES(18));
+    holds("judge's text, 12", TEXT("refused 12 at 172\n"));
+    catalogue(4);
+    field(2, I1);
+    field(3, T30);
+    field(5, SCRIPT_30);
+    told("judge's text, 30", pageoriole_judge_text(FILE_MADE, PLACE, ANSWER), PAGEORIOLE_DONE, VALUES(15));
+    holds("judge's text, 30", TEXT("verdict 30 1 2\n"));
+    told("judge's text, 13", pageoriole_judge_text(made, made_size, place, 14, ANSWER), PAGEORIOLE_ROOM, VALUES(15));
+    holds("judge's text, 13", NOTHING);
+    told("plan's text, 3", pageoriole_plan_text(NOTHING, PLACE, ANSWER), PAGEORIOLE_DONE, VALUES(15));
+    holds("plan's text, 3", TEXT("refused 3 at 0\n"));
+}
+
+/* ---- field values ---- */
+
+/* What is lent for an absent keep list or script, and must not be looked at. */
+#define ABSENT false, BYTES(7)
+#define HERE(...) true, BYTES(__VA_ARGS__)
+
+#define passes(what, call) told(what, call, PAGEORIOLE_DONE, NULL, 0)
+#define turned(what, call, wanted) told(what, call, wanted, VALUES(0))
+
+static void check_check(void) {
+    static uint8_t other[2 * PAGEORIOLE_RULE];
+    passes("check, first example", pageoriole_check(FIVE, I1, T1, ABSENT, ABSENT, ANSWER));
+    passes("check, all there", pageoriole_check(THREE, I3, T3, HERE(0, 0, 0, 1), HERE(2), ANSWER));
+    passes("check, all empty", pageoriole_check(NOTHING, NOTHING, NOTHING, true, NOTHING, false, NOTHING, ANSWER));
+    turned("check 4, rules", pageoriole_check(rules, 26, I1, T1, ABSENT, ABSENT, ANSWER), PAGEORIOLE_LENGTH);
+    turned("check 4, initial", pageoriole_check(FIVE, BYTES(0), T1, ABSENT, ABSENT, ANSWER), PAGEORIOLE_LENGTH);
+    turned("check 4, target", pageoriole_check(FIVE, I1, BYTES(0), ABSENT, ABSENT, ANSWER), PAGEORIOLE_LENGTH);
+    turned("check 4, keep list", pageoriole_check(FIVE, I1, T1, HERE(0), ABSENT, ANSWER), PAGEORIOLE_LENGTH);
+    turned("check 4, script", pageoriole_check(FIVE, I1, T1, ABSENT, true, NOTHING, ANSWER), PAGEORIOLE_LENGTH);
+    turned("check 7", pageoriole_check(rules, sizeof rules, I1, T1, ABSENT, ABSENT, ANSWER), PAGEORIOLE_TOO_MANY);
+    memcpy(other, rules, sizeof other);
+    other[2] = 5;
+    other[1] = 6;
+    turned("check 5", pageoriole_check(other, sizeof other, NOTHING, NOTHING, ABSENT, ABSENT, ANSWER), PAGEORIOLE_BOUNDS);
+    memcpy(other, rules + PAGEORIOLE_RULE, PAGEORIOLE_RULE);
+    turned("check 6", pageoriole_check(other, sizeof other, NOTHING, NOTHING, ABSENT, ABSENT, ANSWER), PAGEORIOLE_EQUAL);
+    turned("check 8, initial", pageoriole_check(FIVE, BYTES(0, 5), T1, ABSENT, ABSENT, ANSWER), PAGEORIOLE_OUTSIDE);
+    turned("check 8, target", pageoriole_check(FIVE, I1, BYTES(0, 5), ABSENT, ABSENT, ANSWER), PAGEORIOLE_OUTSIDE);
+    turned("check 9", pageoriole_check(FIVE, I1, BYTES(0, 3, 0, 3), ABSENT, ABSENT, ANSWER), PAGEORIOLE_TWICE);
+    turned("check 10", pageoriole_check(THREE, I3, T3, HERE(0, 1, 0, 0), ABSENT, ANSWER), PAGEORIOLE_KEEP);
+    turned("check 11", pageoriole_check(FIVE, I1, T1, ABSENT, HERE(3), ANSWER), PAGEORIOLE_CODING);
+}
+
+static void check_write(void) {
+    first_example();
+    told("write, first example", pageoriole_write(FIVE, I1, T1, ABSENT, ABSENT, PLACE, ANSWER), PAGEORIOLE_DONE, VALUES(172));
+    holds("write, first example", FILE_MADE);
+    field(4, NOTHING);
+    told("write, an empty keep list", pageoriole_write(FIVE, I1, T1, true, NOTHING, ABSENT, PLACE, ANSWER), PAGEORIOLE_DONE, VALUES(175));
+    holds("write, an empty keep list", FILE_MADE);
+    first_example();
+    field(5, SCRIPT_TWO);
+    told("write, a script", pageoriole_write(FIVE, I1, T1, ABSENT, true, SCRIPT_TWO, PLACE, ANSWER), PAGEORIOLE_DONE, VALUES(191));
+    holds("write, a script", FILE_MADE);
+    told("write 13", pageoriole_write(FIVE, I1, T1, ABSENT, ABSENT, place, 171, ANSWER), PAGEORIOLE_ROOM, VALUES(172));
+    holds("write 13", NOTHING);
+    told("write 11", pageoriole_write(FIVE, I1, T1, ABSENT, HERE(3), PLACE, ANSWER), PAGEORIOLE_CODING, VALUES(0));
+    holds("write 11", NOTHING);
+}
+
+typedef uint32_t decider(const uint8_t *, size_t, const uint8_t *, size_t, uint8_t, uint32_t, uint16_t, uint32_t, uint16_t, uint64_t *, size_t);
+
+/* One rule whose five ranges differ: protocol 6, source 10.0.0.0 to 10.0.0.255, port 258 to 515, destination 20.1.0.0 to 20.1.0.1, port 1027. */
+#define ONE_RULE BYTES(1, 6, 6, 10, 0, 0, 0, 10, 0, 0, 255, 1, 2, 2, 3, 20, 1, 0, 0, 20, 1, 0, 1, 4, 3, 4, 3)
+#define ALONE BYTES(0, 0)
+#define TEN 0x0a000000u
+#define TWENTY 0x14010000u
+
+static void check_decide(const char *what, decider *decide) {
+    static const struct {
+        uint8_t protocol;
+        uint32_t source;
+        uint16_t source_port;
+        uint32_t destination;
+        uint16_t destination_port;
+        uint64_t action;
+    } flows[] = {{6, TEN, 258, TWENTY, 1027, 1},       {6, TEN + 255, 515, TWENTY + 1, 1027, 1}, {7, TEN, 258, TWENTY, 1027, 0},
+                 {6, TEN + 256, 258, TWENTY, 1027, 0}, {6, TEN, 257, TWENTY, 1027, 0},           {6, TEN, 516, TWENTY, 1027, 0},
+                 {6, TEN, 258, TWENTY + 2, 1027, 0},   {6, TEN, 258, TWENTY, 1026, 0}};
+    for (size_t k = 0; k < sizeof flows / sizeof *flows; k++) {
+            told(what,
+             decide(ONE_RULE, ALONE, flows[k].protocol, flows[k].source, flows[k].source_port, flows[k].destination, flows[k].destination_port, ANSWER),
+             PAGEORIOLE_DONE, VALUES(flows[k].action, flows[k].action));
+    }
+    told(what, decide(FIVE, T1, 4, 0, 0, 0, 0, ANSWER), PAGEORIOLE_DONE, VALUES(1, 3));
+    told(what, decide(FIVE, NOTHING, 4, 0, 0, 0, 0, ANSWER), PAGEORIOLE_DONE, VALUES(0, 0));
+    told(what,
+         decide(BYTES(1, 0, 255, 0, 0, 0, 0, 255, 255, 255, 255, 0, 0, 255, 255, 0, 0, 0, 0, 255, 255, 255, 255, 0, 0, 0, 0), ALONE, 47, TEN, 0,
+                TWENTY, 0, ANSWER),
+         PAGEORIOLE_DONE, VALUES(1, 1));
+}
+
+static void check_decide_values(void) {
+    check_decide("decide", pageoriole_decide);
+    check_decide("decide, accepted before", pageoriole_decide_accepted);
+    told("decide 8", pageoriole_decide(FIVE, BYTES(0, 5), 0, 0, 0, 0, 0, ANSWER), PAGEORIOLE_OUTSIDE, VALUES(0));
+    told("decide 4", pageoriole_decide(rules, 26, ALONE, 0, 0, 0, 0, 0, ANSWER), PAGEORIOLE_LENGTH, VALUES(0));
+    told("decide, a number outside", pageoriole_decide_accepted(FIVE, BYTES(0, 5, 0, 0), 0, 0, 0, 0, 0, ANSWER), PAGEORIOLE_DONE, VALUES(1, 2));
+}
+
+static void check_replay(void) {
+    told("replay", pageoriole_replay(FIVE, I1, SCRIPT_ONE, PLACE, ANSWER), PAGEORIOLE_DONE, VALUES(8));
+    holds("replay", T1);
+    told("replay, insert behind the last", pageoriole_replay(THREE, BYTES(0, 0, 0, 1), BYTES(2, 3, 0, 3, 0, 2), PLACE, ANSWER), PAGEORIOLE_DONE,
+         VALUES(6));
+    holds("replay, insert behind the last", I3);
+    told("replay 20", pageoriole_replay(TWO, BYTES(0, 0, 0, 1), BYTES(1, 1, 0, 1, 0, 0), PLACE, ANSWER), PAGEORIOLE_PRESENT, VALUES(1));
+    holds("replay 20", NOTHING);
+    told("replay 21", pageoriole_replay(TWO, BYTES(0, 0), BYTES(1, 1, 0, 1, 0, 0, 2, 0, 0, 0, 0, 2, 0, 0, 0, 0), PLACE, ANSWER), PAGEORIOLE_ABSENT,
+         VALUES(3));
+    told("replay 22", pageoriole_replay(TWO, BYTES(0, 0, 0, 1), BYTES(2, 5, 0, 2, 0, 3), PLACE, ANSWER), PAGEORIOLE_PLACE, VALUES(1));
+    told("replay 23", pageoriole_replay(TWO, BYTES(0, 0), BYTES(1, 1, 0, 2, 0, 0), PLACE, ANSWER), PAGEORIOLE_NUMBER, VALUES(1));
+    told("replay 13", pageoriole_replay(FIVE, I1, SCRIPT_ONE, place, 7, ANSWER), PAGEORIOLE_ROOM, VALUES(8));
+    holds("replay 13", NOTHING);
+    told("replay 9", pageoriole_replay(FIVE, BYTES(0, 1, 0, 1), SCRIPT_ONE, PLACE, ANSWER), PAGEORIOLE_TWICE, VALUES(0));
+    told("replay 11", pageoriole_replay(FIVE, I1, BYTES(9), PLACE, ANSWER), PAGEORIOLE_CODING, VALUES(0));
+    holds("replay 11", NOTHING);
+}
+
+static void check_plan(void) {
+    told("plan one", pageoriole_plan_one(FIVE, I1, T1, ABSENT, ABSENT, PLACE, ANSWER), PAGEORIOLE_DONE, VALUES(1, 6, 34));
+    holds("plan one", PLAN_ONE);
+    told("plan two", pageoriole_plan_two(FIVE, I1, T1, ABSENT, ABSENT, PLACE, ANSWER), PAGEORIOLE_DONE, VALUES(2, 3, 19));
+    holds("plan two", PLAN_TWO);
+    told("plan two, keep 0 1", pageoriole_plan_two(THREE, I3, T3, HERE(0, 0, 0, 1), ABSENT, PLACE, ANSWER), PAGEORIOLE_DONE, VALUES(2, 1, 9));
+    holds("plan two, keep 0 1", BYTES(5, 0, 6, 2, 5, 0, 3, 0, 1));
+    told("plan two, keep absent", pageoriole_plan_two(THREE, I3, T3, ABSENT, ABSENT, PLACE, ANSWER), PAGEORIOLE_DONE, VALUES(1, 2, 14));
+    holds("plan two, keep absent", BYTES(5, 0, 11, 2, 5, 0, 2, 0, 3, 5, 0, 1, 0, 2));
+    told("plan two, keep empty", pageoriole_plan_two(TWO, BYTES(0, 0, 0, 1), BYTES(0, 1, 0, 0), true, NOTHING, ABSENT, PLACE, ANSWER),
+         PAGEORIOLE_DONE, VALUES(0, 1, 9));
+    holds("plan two, keep empty", BYTES(5, 0, 6, 2, 5, 0, 2, 0, 1));
+    told("plan one, I = T", pageoriole_plan_one(FIVE, I1, I1, ABSENT, ABSENT, PLACE, ANSWER), PAGEORIOLE_DONE, VALUES(4, 0, 4));
+    holds("plan one, I = T", BYTES(5, 0, 1, 1));
+    told("plan two, both empty", pageoriole_plan_two(NOTHING, NOTHING, NOTHING, ABSENT, ABSENT, PLACE, ANSWER), PAGEORIOLE_DONE, VALUES(0, 0, 4));
+    holds("plan two, both empty", BYTES(5, 0, 1, 2));
+    told("plan one 11", pageoriole_plan_one(FIVE, I1, T1, ABSENT, HERE(3), PLACE, ANSWER), PAGEORIOLE_CODING, VALUES(0));
+    holds("plan one 11", NOTHING);
+    told("plan two 10", pageoriole_plan_two(THREE, I3, T3, HERE(0, 1, 0, 0), ABSENT, PLACE, ANSWER), PAGEORIOLE_KEEP, VALUES(0));
+    told("plan one 13", pageoriole_plan_one(FIVE, I1, T1, ABSENT, ABSENT, place, 33, ANSWER), PAGEORIOLE_ROOM, VALUES(34));
+    holds("plan one 13", NOTHING);
+    told("plan two 13", pageoriole_plan_two(FIVE, I1, T1, ABSENT, ABSENT, NULL, 0, ANSWER), PAGEORIOLE_ROOM, VALUES(19));
+}
+
+static void check_judge(void) {
+    told("judge 31, first example", pageoriole_judge(FIVE, I1, T1, ABSENT, SCRIPT_ONE, ANSWER), PAGEORIOLE_NOT_FULL, NULL, 0);
+    told("judge 32, first example", pageoriole_judge(FIVE, I1, T1, ABSENT, SCRIPT_TWO, ANSWER), PAGEORIOLE_SAFE, NULL, 0);
+    told("judge 31, a hole", pageoriole_judge(TWO, BYTES(0, 0), BYTES(0, 1), ABSENT, BYTES(2, 4, 0, 1, 0, 0, 3, 0, 1, 0, 1), ANSWER),
+         PAGEORIOLE_NOT_FULL, NULL, 0);
+    told("judge 32, both empty", pageoriole_judge(NOTHING, NOTHING, NOTHING, true, NOTHING, BYTES(1), ANSWER), PAGEORIOLE_SAFE, NULL, 0);
+    told("judge 30", pageoriole_judge(FIVE, I1, T30, ABSENT, SCRIPT_30, ANSWER), PAGEORIOLE_UNORDERED, VALUES(1, 2));
+    told("judge 24", pageoriole_judge(FIVE, I1, T30, ABSENT, SCRIPT_TWO, ANSWER), PAGEORIOLE_ELSEWHERE, VALUES(3));
+    told("judge 20", pageoriole_judge(TWO, BYTES(0, 0), BYTES(0, 1), ABSENT, BYTES(2, 3, 0, 1, 0, 0), ANSWER), PAGEORIOLE_PRESENT, VALUES(1));
+    told("judge 21", pageoriole_judge(TWO, BYTES(0, 0), BYTES(0, 1), ABSENT, BYTES(1, 1, 0, 1, 0, 0, 2, 0, 0, 0, 0, 2, 0, 0, 0, 0), ANSWER),
+         PAGEORIOLE_ABSENT, VALUES(3));
+    told("judge 22", pageoriole_judge(TWO, BYTES(0, 0, 0, 1), BYTES(0, 1), ABSENT, BYTES(2, 5, 0, 2, 0, 3), ANSWER), PAGEORIOLE_PLACE, VALUES(1));
+    told("judge 23", pageoriole_judge(TWO, BYTES(0, 0), BYTES(0, 1), ABSENT, BYTES(1, 1, 0, 2, 0, 0), ANSWER), PAGEORIOLE_NUMBER, VALUES(1));
+    told("judge 10", pageoriole_judge(THREE, I3, T3, HERE(0, 1, 0, 0), SCRIPT_TWO, ANSWER), PAGEORIOLE_KEEP, VALUES(0));
+    told("judge 4", pageoriole_judge(THREE, I3, T3, ABSENT, NOTHING, ANSWER), PAGEORIOLE_LENGTH, VALUES(0));
+}
+
+int main(void) {
+    make_rules();
+    check_read();
+    check_decide_file();
+    check_replay_file();
+    check_plan_file();
+    check_judge_file();
+    check_text();
+    check_check();
+    check_write();
+    check_decide_values();
+    check_replay();
+    check_plan();
+    check_judge();
+    printf("%u checks, %u wrong\n", checks, wrong);
+    return wrong == 0 ? 0 : 1;
+}

@@ -1,0 +1,2 @@
+typedef __SIZE_TYPE__ size_t;
+#define NULL ((void *)0)

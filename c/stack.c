@@ -1,0 +1,192 @@
+/* How much stack each function touches: every call runs on a stack of its own, painted before it; the deepest byte that lost its paint is the
+ * mark. The inputs are the largest that are accepted: 1,024 rules, policies of 512 rules that have none in common, or the same in reverse, or
+ * equal with a keep list of 512, and scripts of 2,048 commands that run through. Prints the mark in bytes for each function; fails above the goal. */
+#include <stdio.h>
+#include <string.h>
+
+#include "pageoriole.h"
+
+enum { GOAL = 32 * 1024, STACK = 1024 * 1024, PAINT = 0xa5, LIST = 2 * PAGEORIOLE_LISTED, SCRIPT = 1 + 5 * PAGEORIOLE_COMMANDS };
+
+static _Alignas(16) uint8_t stack[STACK];
+static uint8_t rules[PAGEORIOLE_RULES * PAGEORIOLE_RULE];
+static uint8_t place[PAGEORIOLE_TEXT];
+static uint64_t answer[PAGEORIOLE_ANSWER];
+
+/* One input: policies, keep list and script as field values, and the file of them. */
+struct input {
+    uint8_t initial[LIST], target[LIST], keep[LIST], script[SCRIPT], file[PAGEORIOLE_FILE];
+    bool has_keep;
+    size_t keep_size, file_size;
+};
+
+static struct input disjoint, reversed, same;
+static const struct input *now;
+
+static void put_number(uint8_t *list, size_t k, size_t n) {
+    list[2 * k] = (uint8_t)(n / 256);
+    list[2 * k + 1] = (uint8_t)(n % 256);
+}
+
+static void put_command(uint8_t *script, size_t k, uint8_t code, size_t one, size_t two) {
+    uint8_t *command = script + 1 + 5 * k;
+    command[0] = code;
+    put_number(command + 1, 0, one);
+    put_number(command + 3, 0, two);
+}
+
+/* Full ranges that differ in their last byte but one, so that two rules are compared to the end. */
+static void make_rules(void) {
+    for (size_t k = 0; k < PAGEORIOLE_RULES; k++) {
+        uint8_t *rule = rules + k * PAGEORIOLE_RULE;
+        memset(rule, 0, PAGEORIOLE_RULE);
+        rule[0] = 1;
+        memset(rule + 25, 255, 2);
+        put_number(rule + 23, 0, k);
+    }
+}
+
+static void make_file(struct input *in) {
+    pageoriole_write(rules, sizeof rules, in->initial, LIST, in->target, LIST, in->has_keep, in->keep, in->keep_size, true, in->script, SCRIPT,
+                     in->file, sizeof in->file, answer, PAGEORIOLE_ANSWER);
+    in->file_size = answer[0];
+}
+
+/* Commands by their codes. */
+enum { APP = 1, DEL_RULE = 2, INS = 3, DEL_PLACE = 4, MOV = 5 };
+
+/* Deletes the initial rules, appends the target's, and then its last one again and again: ordered, not full. */
+static void disjoint_command(size_t k) {
+    if (k < PAGEORIOLE_LISTED)
+        put_command(disjoint.script, k, DEL_RULE, PAGEORIOLE_LISTED - 1 - k, 0);
+    else if (k < PAGEORIOLE_RULES)
+        put_command(disjoint.script, k, APP, k, 0);
+    else
+        put_command(disjoint.script, k, k % 2 ? APP : DEL_RULE, PAGEORIOLE_RULES - 1, 0);
+}
+
+/* Moves the last rule to the first place, to the second and so on, then nothing: safe. */
+static void reversed_command(size_t k) {
+    size_t to = k + 1 < PAGEORIOLE_LISTED ? k + 1 : PAGEORIOLE_LISTED;
+    put_command(reversed.script, k, MOV, PAGEORIOLE_LISTED, to);
+}
+
+/* Inserts the other rules in front and deletes them, then moves the first rule to the end: a list of 1,024 rules, and lists that aren't ordered. */
+static void same_command(size_t k) {
+    if (k < PAGEORIOLE_LISTED)
+        put_command(same.script, k, INS, 1, PAGEORIOLE_LISTED + k);
+    else if (k < PAGEORIOLE_RULES)
+        put_command(same.script, k, DEL_PLACE, 1, 0);
+    else
+        put_command(same.script, k, MOV, 1, PAGEORIOLE_LISTED);
+}
+
+static void make_inputs(void) {
+    for (size_t k = 0; k < PAGEORIOLE_LISTED; k++) {
+        put_number(disjoint.initial, k, k);
+        put_number(disjoint.target, k, PAGEORIOLE_LISTED + k);
+        put_number(reversed.initial, k, k);
+        put_number(reversed.target, k, PAGEORIOLE_LISTED - 1 - k);
+        put_number(same.initial, k, k);
+        put_number(same.target, k, k);
+        put_number(same.keep, k, k);
+    }
+    reversed.has_keep = same.has_keep = true;
+    same.keep_size = LIST;
+    disjoint.script[0] = 1;
+    reversed.script[0] = same.script[0] = 2;
+    for (size_t k = 0; k < PAGEORIOLE_COMMANDS; k++) {
+        disjoint_command(k);
+        reversed_command(k);
+        same_command(k);
+    }
+    make_file(&disjoint);
+    make_file(&reversed);
+    make_file(&same);
+}
+
+#define ANSWER answer, (size_t)PAGEORIOLE_ANSWER
+#define FILE_NOW now->file, now->file_size
+#define RULES rules, sizeof rules
+#define VALUES RULES, now->initial, (size_t)LIST, now->target, (size_t)LIST, now->has_keep, now->keep, now->keep_size
+#define SCRIPT_NOW now->script, (size_t)SCRIPT
+#define PLACE place, sizeof place
+#define FLOW 17, 0, 0, 0, 0
+
+static uint32_t number;
+
+static void read(void) { number = pageoriole_read(FILE_NOW, ANSWER); }
+static void read_to_judge(void) { number = pageoriole_read_to_judge(FILE_NOW, ANSWER); }
+static void check(void) { number = pageoriole_check(VALUES, true, SCRIPT_NOW, ANSWER); }
+static void write(void) { number = pageoriole_write(VALUES, true, SCRIPT_NOW, PLACE, ANSWER); }
+static void decide_file(void) { number = pageoriole_decide_file(FILE_NOW, true, FLOW, ANSWER); }
+static void decide(void) { number = pageoriole_decide(RULES, now->target, LIST, FLOW, ANSWER); }
+static void decide_accepted(void) { number = pageoriole_decide_accepted(RULES, now->target, LIST, FLOW, ANSWER); }
+static void replay_file(void) { number = pageoriole_replay_file(FILE_NOW, PLACE, ANSWER); }
+static void replay(void) { number = pageoriole_replay(RULES, now->initial, LIST, SCRIPT_NOW, PLACE, ANSWER); }
+static void plan_one_file(void) { number = pageoriole_plan_one_file(FILE_NOW, PLACE, ANSWER); }
+static void plan_two_file(void) { number = pageoriole_plan_two_file(FILE_NOW, PLACE, ANSWER); }
+static void plan_one(void) { number = pageoriole_plan_one(VALUES, true, SCRIPT_NOW, PLACE, ANSWER); }
+static void plan_two(void) { number = pageoriole_plan_two(VALUES, true, SCRIPT_NOW, PLACE, ANSWER); }
+static void judge_file(void) { number = pageoriole_judge_file(FILE_NOW, ANSWER); }
+static void plan_text(void) { number = pageoriole_plan_text(FILE_NOW, PLACE, ANSWER); }
+static void judge_text(void) { number = pageoriole_judge_text(FILE_NOW, PLACE, ANSWER); }
+static void judge(void) { number = pageoriole_judge(VALUES, SCRIPT_NOW, ANSWER); }
+
+/* Calls a function with the stack pointer at the end of the painted stack. */
+static void call_there(void (*call)(void)) {
+    __asm__ volatile("movq %%rsp, %%rbx\n\tmovq %0, %%rsp\n\tcall *%1\n\tmovq %%rbx, %%rsp"
+                     :
+                     : "r"(stack + STACK), "r"(call)
+                     : "rbx", "rax", "rcx", "rdx", "rsi", "rdi", "r8", "r9", "r10", "r11", "memory", "cc", "xmm0", "xmm1", "xmm2", "xmm3", "xmm4",
+                       "xmm5", "xmm6", "xmm7", "xmm8", "xmm9", "xmm10", "xmm11", "xmm12", "xmm13", "xmm14", "xmm15");
+}
+
+static size_t mark(void (*call)(void)) {
+    size_t k = 0;
+    memset(stack, PAINT, sizeof stack);
+    call_there(call);
+    while (k < STACK && stack[k] == PAINT) k++;
+    return STACK - k;
+}
+
+int main(void) {
+    static const struct {
+        const char *name;
+        void (*call)(void);
+    } calls[] = {{"pageoriole_read", read},
+                 {"pageoriole_read_to_judge", read_to_judge},
+                 {"pageoriole_check", check},
+                 {"pageoriole_write", write},
+                 {"pageoriole_decide_file", decide_file},
+                 {"pageoriole_decide", decide},
+                 {"pageoriole_decide_accepted", decide_accepted},
+                 {"pageoriole_replay_file", replay_file},
+                 {"pageoriole_replay", replay},
+                 {"pageoriole_plan_one_file", plan_one_file},
+                 {"pageoriole_plan_two_file", plan_two_file},
+                 {"pageoriole_plan_one", plan_one},
+                 {"pageoriole_plan_two", plan_two},
+                 {"pageoriole_judge_file", judge_file},
+                 {"pageoriole_judge", judge},
+                 {"pageoriole_plan_text", plan_text},
+                 {"pageoriole_judge_text", judge_text}};
+    const struct input *inputs[] = {&disjoint, &reversed, &same};
+    size_t most = 0;
+    bool accepted = true;
+    make_rules();
+    make_inputs();
+    for (size_t k = 0; k < sizeof calls / sizeof *calls; k++) {
+        size_t deepest = 0;
+        for (size_t i = 0; i < sizeof inputs / sizeof *inputs; i++) {
+            now = inputs[i];
+            size_t here = mark(calls[k].call);
+            accepted = accepted && (number == PAGEORIOLE_DONE || number > PAGEORIOLE_ELSEWHERE);
+            if (here > deepest) deepest = here;
+        }
+        printf("%-26s %6zu bytes\n", calls[k].name, deepest);
+        if (deepest > most) most = deepest;
+    }
+    printf("at most %zu bytes of stack; the goal is %d%s\n", most, GOAL, accepted ? "" : "; AN INPUT WAS TURNED AWAY");
+    return accepted && same.file_size == PAGEORIOLE_FILE && most <= GOAL ? 0 : 1;
+}

@@ -1,0 +1,280 @@
+// Over field values: each entry as a function that C can call. The number is returned, its values stand in `answer`; the keep list and the
+// script are there if their `has_` says so.
+
+ghost use mathlib.Core.Bool.{true};
+ghost use Rattle.policy.specs.Policy.{decide, matching};
+ghost use Rattle.deployment.specs.Values.{numbersOf};
+ghost use Rattle.deployment.specs.Catalogue.{catalogueOf};
+ghost use Rattle.deployment.specs.FieldValues.{readValues, valuesRead};
+ghost use Rattle.reader.specs.Answers.{checking, valuesGiven};
+ghost use Rattle.writer.specs.Answers.{writtenValues};
+ghost use Rattle.planner.specs.Plans.{planned, madeOne, madeTwo};
+ghost use Rattle.judge.specs.Answers.{judgedReading};
+ghost use Rattle.entries.specs.Answers.{decidedValues, decidedAtZero, replayedValues, replayedAtZero};
+ghost use Rattle.pageoriole.specs.Answers.{
+  Tells,
+  Leaves,
+  checkedTold,
+  decisionTold,
+  decidedTold,
+  judgedTold,
+  writeOutcome,
+  replayOutcome,
+  planOutcome,
+  flowOf,
+};
+use super::told::checked_told;
+use super::told::decided_told;
+use super::told::decision_told;
+use super::told::judged_told;
+use super::told::planned_told;
+use super::told::ran_told;
+use super::told::tell;
+use super::told::written_told;
+use decision::decided;
+use entries::lists::check;
+use entries::lists::decide;
+use entries::lists::judge;
+use entries::lists::plan_one;
+use entries::lists::plan_two;
+use entries::lists::replay;
+use entries::lists::write;
+use policy::Flow;
+
+// No field's head stands before a rule of a field value.
+const NO_HEAD: u8 = 0;
+
+// Whether field values pass.
+#[no_mangle]
+pub extern "C" fn pageoriole_check(
+    rules: &[u8],
+    initial: &[u8],
+    target: &[u8],
+    has_keep: bool,
+    keep: &[u8],
+    has_script: bool,
+    script: &[u8],
+    answer: &mut [u64],
+) -> u32
+    ensures { λ n. ⌜
+        Tells
+        (checkedTold (checking (valuesRead
+        (valuesGiven (now (rules .entry)) (now (initial .entry)) (now (target .entry)) «has_keep» (now (keep .entry)) «has_script» (now (script .entry))))))
+        n (now (answer .entry)) (now (answer .exit))
+        ⌝ }
+{
+    let found = check(rules, initial, target, has_keep, keep, has_script, script);
+    let words = checked_told(found);
+    tell(words, answer)
+}
+
+// Writes the file of the field values into the first bytes of `place`: bytes.
+#[no_mangle]
+pub extern "C" fn pageoriole_write(
+    rules: &[u8],
+    initial: &[u8],
+    target: &[u8],
+    has_keep: bool,
+    keep: &[u8],
+    has_script: bool,
+    script: &[u8],
+    place: &mut [u8],
+    answer: &mut [u64],
+) -> u32
+    ensures { λ n. ⌜
+        Leaves
+        (writeOutcome (writtenValues
+        (valuesGiven (now (rules .entry)) (now (initial .entry)) (now (target .entry)) «has_keep» (now (keep .entry)) «has_script» (now (script .entry)))
+        (now (place .entry))))
+        n (now (answer .entry)) (now (answer .exit)) (now (place .exit))
+        ⌝ }
+{
+    let found = write(
+        rules,
+        initial,
+        target,
+        has_keep,
+        keep,
+        has_script,
+        script,
+        place,
+    );
+    let words = written_told(found);
+    tell(words, answer)
+}
+
+// Decides a flow by a policy: action and place.
+#[no_mangle]
+pub extern "C" fn pageoriole_decide(
+    rules: &[u8],
+    policy: &[u8],
+    protocol: u8,
+    source: u32,
+    source_port: u16,
+    destination: u32,
+    destination_port: u16,
+    answer: &mut [u64],
+) -> u32
+    ensures { λ n. ⌜
+        Tells
+        (decidedTold (decidedAtZero (decidedValues (now (rules .entry)) (now (policy .entry))
+        (flowOf protocol source «source_port» destination «destination_port»))))
+        n (now (answer .entry)) (now (answer .exit))
+        ⌝ }
+{
+    let flow = Flow {
+        protocol,
+        source,
+        source_port,
+        destination,
+        destination_port,
+    };
+    let found = decide(rules, policy, flow);
+    let words = decided_told(found);
+    tell(words, answer)
+}
+
+// The same without the tests, for values that were accepted before. Of others: a number outside the catalogue matches nothing.
+#[no_mangle]
+pub extern "C" fn pageoriole_decide_accepted(
+    rules: &[u8],
+    policy: &[u8],
+    protocol: u8,
+    source: u32,
+    source_port: u16,
+    destination: u32,
+    destination_port: u16,
+    answer: &mut [u64],
+) -> u32
+    ensures { λ n. ⌜
+        Tells
+        (decisionTold (decide
+        (matching (catalogueOf 0 (now (rules .entry))) (flowOf protocol source «source_port» destination «destination_port»))
+        (numbersOf (now (policy .entry)))))
+        n (now (answer .entry)) (now (answer .exit))
+        ⌝ }
+{
+    let flow = Flow {
+        protocol,
+        source,
+        source_port,
+        destination,
+        destination_port,
+    };
+    let found = decided(rules, NO_HEAD, policy, flow);
+    let words = decision_told(found);
+    tell(words, answer)
+}
+
+// Replays a script from a policy: bytes of the last list, which fills the first bytes of `place`; or 20 to 23 and the step.
+#[no_mangle]
+pub extern "C" fn pageoriole_replay(
+    rules: &[u8],
+    initial: &[u8],
+    script: &[u8],
+    place: &mut [u8],
+    answer: &mut [u64],
+) -> u32
+    ensures { λ n. ⌜
+        Leaves
+        (replayOutcome (replayedAtZero (replayedValues (now (rules .entry)) (now (initial .entry)) (now (script .entry))) (now (place .entry))))
+        n (now (answer .entry)) (now (answer .exit)) (now (place .exit))
+        ⌝ }
+{
+    let found = replay(rules, initial, script, place);
+    let words = ran_told(found);
+    tell(words, answer)
+}
+
+// Plans by append and delete: rules kept, commands and bytes of the script field, which fills the first bytes of `place`.
+#[no_mangle]
+pub extern "C" fn pageoriole_plan_one(
+    rules: &[u8],
+    initial: &[u8],
+    target: &[u8],
+    has_keep: bool,
+    keep: &[u8],
+    has_script: bool,
+    script: &[u8],
+    place: &mut [u8],
+    answer: &mut [u64],
+) -> u32
+    ensures { λ n. ⌜
+        Leaves
+        (planOutcome (planned madeOne (readValues
+        (valuesGiven (now (rules .entry)) (now (initial .entry)) (now (target .entry)) «has_keep» (now (keep .entry)) «has_script» (now (script .entry))))
+        (now (place .entry))))
+        n (now (answer .entry)) (now (answer .exit)) (now (place .exit))
+        ⌝ }
+{
+    let found = plan_one(
+        rules,
+        initial,
+        target,
+        has_keep,
+        keep,
+        has_script,
+        script,
+        place,
+    );
+    let words = planned_told(found);
+    tell(words, answer)
+}
+
+// Plans by insert, delete and move.
+#[no_mangle]
+pub extern "C" fn pageoriole_plan_two(
+    rules: &[u8],
+    initial: &[u8],
+    target: &[u8],
+    has_keep: bool,
+    keep: &[u8],
+    has_script: bool,
+    script: &[u8],
+    place: &mut [u8],
+    answer: &mut [u64],
+) -> u32
+    ensures { λ n. ⌜
+        Leaves
+        (planOutcome (planned madeTwo (readValues
+        (valuesGiven (now (rules .entry)) (now (initial .entry)) (now (target .entry)) «has_keep» (now (keep .entry)) «has_script» (now (script .entry))))
+        (now (place .entry))))
+        n (now (answer .entry)) (now (answer .exit)) (now (place .exit))
+        ⌝ }
+{
+    let found = plan_two(
+        rules,
+        initial,
+        target,
+        has_keep,
+        keep,
+        has_script,
+        script,
+        place,
+    );
+    let words = planned_told(found);
+    tell(words, answer)
+}
+
+// Judges a script: the verdict's number, and its values.
+#[no_mangle]
+pub extern "C" fn pageoriole_judge(
+    rules: &[u8],
+    initial: &[u8],
+    target: &[u8],
+    has_keep: bool,
+    keep: &[u8],
+    script: &[u8],
+    answer: &mut [u64],
+) -> u32
+    ensures { λ n. ⌜
+        Tells
+        (judgedTold (judgedReading (readValues
+        (valuesGiven (now (rules .entry)) (now (initial .entry)) (now (target .entry)) «has_keep» (now (keep .entry)) true (now (script .entry))))))
+        n (now (answer .entry)) (now (answer .exit))
+        ⌝ }
+{
+    let found = judge(rules, initial, target, has_keep, keep, script);
+    let words = judged_told(found);
+    tell(words, answer)
+}
