@@ -45,7 +45,6 @@ plan-text-fits file (bytes, short) = go (readFile file) refl
 
 -- The numbers of a verdict.
 fault-small : (fault : Fault) → faultNumber fault < 2 ^ 64
-unfolding faultNumber
 fault-small Present = omega arith
 fault-small Absent = omega arith
 fault-small Place = omega arith

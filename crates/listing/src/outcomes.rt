@@ -1,7 +1,5 @@
 // Outcomes of one line: a refusal and a verdict, from the start of the place on.
 
-ghost use mathlib.Core.Path.{_≡_};
-ghost use Rattle.policy.specs.Command.{faultNumber};
 ghost use Rattle.policy.specs.Judge.{verdictNumbers};
 ghost use Prim.Native.Nat.{_+_, _≤_};
 ghost use Rattle.listing.specs.Text.{refusedText, verdictText};
@@ -11,17 +9,7 @@ use super::words::put_spaced;
 use super::words::put_word;
 use deployment::Refusal;
 use deployment::Why;
-use policy::Fault;
 use policy::Verdict;
-
-// The verdicts' numbers, but for a broken replay: that has its fault's.
-const ELSEWHERE: usize = 24;
-
-const UNORDERED: usize = 30;
-
-const NOT_FULL: usize = 31;
-
-const SAFE: usize = 32;
 
 // "A bad file gives one line, as `refused 3 at 0`."
 pub fn put_refused(place: &mut [u8], refusal: Refusal) -> usize
@@ -41,18 +29,6 @@ fn put_why(place: &mut [u8], why: Why, at: usize) -> usize
     put_word(place, next, b"\n")
 }
 
-// The number of a command's failure.
-fn fault_number(fault: Fault) -> usize
-    ensures { λ n. ⌜ n ≡ faultNumber fault ⌝ }
-{
-    match fault {
-        Fault::Present => 20,
-        Fault::Absent => 21,
-        Fault::Place => 22,
-        Fault::Number => 23,
-    }
-}
-
 // The number of a verdict and its values.
 fn put_values(place: &mut [u8], at: usize, v: Verdict) -> usize
     requires { ⌜ at + most-values ≤ most-text ⌝ }
@@ -60,20 +36,20 @@ fn put_values(place: &mut [u8], at: usize, v: Verdict) -> usize
 {
     match v {
         Verdict::Broken(fault, step) => {
-            let next = put_spaced(place, at, fault_number(fault));
+            let next = put_spaced(place, at, fault.number() as usize);
             put_spaced(place, next, step)
         }
         Verdict::Elsewhere(commands) => {
-            let next = put_spaced(place, at, ELSEWHERE);
+            let next = put_spaced(place, at, Verdict::ELSEWHERE as usize);
             put_spaced(place, next, commands)
         }
         Verdict::Unordered(step, rule) => {
-            let mut next = put_spaced(place, at, UNORDERED);
+            let mut next = put_spaced(place, at, Verdict::UNORDERED as usize);
             next = put_spaced(place, next, step);
             put_spaced(place, next, rule)
         }
-        Verdict::NotFull => put_spaced(place, at, NOT_FULL),
-        Verdict::Safe => put_spaced(place, at, SAFE),
+        Verdict::NotFull => put_spaced(place, at, Verdict::NOT_FULL as usize),
+        Verdict::Safe => put_spaced(place, at, Verdict::SAFE as usize),
     }
 }
 

@@ -15,7 +15,7 @@ use Rattle.policy.specs.Cases.{size, sameCoded, sameScript, sameOutcome,
 pub examples : Examples
 unfolding cases failing holds size sameCoded sameScript sameOutcome sameAction port-zero tunnel
     all pick mem contains before after without missing same hits says matches lies decide decideFrom matching
-    step needs within ruleAt lifted placed moved faultNumber coded replay replayFrom lists keptRun planOne
+    step needs within ruleAt lifted placed moved coded replay replayFrom lists keptRun planOne
     ownChoice keptTwo inserted reached moveUp already raised left takeOne stageOne firstStage ahead stageTwo secondStage planTwo
     supportedBy supported full firstFailing firstUnsupported firstUnordered judged verdict verdictNumbers
 examples any = refl

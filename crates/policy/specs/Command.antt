@@ -52,7 +52,7 @@ step size l (DelPlace i) = needs (within i (length l)) Place (passed (lifted i l
 step size l (Mov i j) = needs (within i (length l) && within j (length l)) Place (passed (moved i j l))
 
 -- "Turned away": the number of each failure
-unfoldable pub faultNumber : Fault → ℕ
+abbrev pub faultNumber : Fault → ℕ
 faultNumber Present = 20
 faultNumber Absent = 21
 faultNumber Place = 22

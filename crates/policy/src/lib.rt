@@ -1,5 +1,8 @@
 // The words of document 01 that carry values: flows, decisions, commands, faults, verdicts.
-// There is no function here. What the words mean is in specs/, and every crate above uses these types.
+// What the words mean is in specs/, and every crate above uses these types.
+
+ghost use mathlib.Core.Path.{_≡_};
+ghost use Rattle.policy.specs.Command.{faultNumber};
 
 // What a rule says, and what a flow gets.
 pub enum Action {
@@ -56,6 +59,20 @@ pub enum Fault {
     Number,
 }
 
+impl Fault {
+    // The table's number.
+    pub fn number(self) -> u8
+        ensures { λ n. ⌜ n ≡ faultNumber self ⌝ }
+    {
+        match self {
+            Fault::Present => 20,
+            Fault::Absent => 21,
+            Fault::Place => 22,
+            Fault::Number => 23,
+        }
+    }
+}
+
 // What the judge says: numbers 20 to 24, 30, 31 and 32.
 pub enum Verdict {
     Broken(Fault, usize),
@@ -63,4 +80,15 @@ pub enum Verdict {
     Unordered(usize, usize),
     NotFull,
     Safe,
+}
+
+// The table's numbers, but for a replay that breaks: that has its fault's.
+impl Verdict {
+    pub const ELSEWHERE: u8 = 24;
+
+    pub const UNORDERED: u8 = 30;
+
+    pub const NOT_FULL: u8 = 31;
+
+    pub const SAFE: u8 = 32;
 }

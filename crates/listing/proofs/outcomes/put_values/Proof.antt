@@ -14,12 +14,12 @@ use Rattle.listing.proofs.outcomes.put_values.Statement.{statement}
 use Rattle.listing.proofs.outcomes.put_values.Tie as tie
 
 -- The numbers of each case that has values.
-broken : (c : tie.After-fault-number)
-    → length (spacedAll (c .fault-number .result ∷ c .before .before .before .v .given .0 .1 .0 ∷ [])) ≤ 42
+broken : (c : tie.After-number)
+    → length (spacedAll (c .number .result ∷ c .before .before .before .v .given .0 .1 .0 ∷ [])) ≤ 42
 broken c =
     let step = c .before .before .before .v .given .0 .1 .0 in
     let told = c .before .before .known-told .given in
-    one-more (c .fault-number .result) (step ∷ []) 21 (omega arith) (one-more step [] 0 (omega (arith, told)) none-yet)
+    one-more (c .number .result) (step ∷ []) 21 (omega arith) (one-more step [] 0 (omega (arith, told)) none-yet)
 
 elsewhere : (c : tie.After-known-told2) → length (spacedAll (24 ∷ c .before .v2 .given .0 .0 ∷ [])) ≤ 42
 elsewhere c =
@@ -36,9 +36,9 @@ unordered c =
     (one-more step (rule ∷ []) 21 (omega (arith, told)) (one-more rule [] 0 (omega (arith, told)) none-yet))
 
 -- They end inside the longest text.
-broken-ends : (c : tie.After-fault-number) →
+broken-ends : (c : tie.After-number) →
     let known = c .before .before .before in
-    Ends (known .before .before .before .args .at) (spacedAll (c .fault-number .result ∷ known .v .given .0 .1 .0 ∷ []))
+    Ends (known .before .before .before .args .at) (spacedAll (c .number .result ∷ known .v .given .0 .1 .0 ∷ []))
 broken-ends c = omega (arith, broken c, c .before .before .before .before .before .before .pre)
 
 elsewhere-ends : (c : tie.After-known-told2)
@@ -52,17 +52,17 @@ unordered-ends c = omega (arith, unordered c, c .before .before .before .before 
 enum-known-v : tie.Need-enum-known-v
 enum-known-v c = search needs
 
-fault-number-requires : tie.Need-fault-number-requires
-fault-number-requires c κs = search needs
+number-requires : tie.Need-number-requires
+number-requires c κs = search needs
 
 put-spaced-requires : tie.Need-put-spaced-requires
-put-spaced-requires c κs = all-first _ (c .fault-number .result) (c .before .before .before .v .given .0 .1 .0 ∷ []) (broken-ends c)
+put-spaced-requires c κs = all-first _ (c .number .result) (c .before .before .before .v .given .0 .1 .0 ∷ []) (broken-ends c)
 
 put-spaced-requires-2 : tie.Need-put-spaced-requires-2
 put-spaced-requires-2 c κs =
     let first = c .before .before .before in
     let step = first .before .before .before .before .v .given .0 .1 .0 in
-    all-first _ step [] (all-rest (first .before .fault-number .result) (step ∷ []) (first .put-spaced .ensures) (broken-ends (first .before)))
+    all-first _ step [] (all-rest (first .before .number .result) (step ∷ []) (first .put-spaced .ensures) (broken-ends (first .before)))
 
 enum-known-v-2 : tie.Need-enum-known-v-2
 enum-known-v-2 c = search needs
@@ -126,9 +126,9 @@ returns c =
     let numbered = first .before in
     let known = numbered .before .before .before in
     let step = known .v .given .0 .1 .0 in
-    rw (known .v .given .1, ← numbered .fault-number .ensures)
+    rw (known .v .given .1, ← numbered .number .ensures)
     (record {
-      put = all-more (numbered .fault-number .result) (step ∷ []) (first .put-spaced .ensures) (all-last step (c .before .before .put-spaced2 .ensures));
+      put = all-more (numbered .number .result) (step ∷ []) (first .put-spaced .ensures) (all-last step (c .before .before .put-spaced2 .ensures));
       short = omega (arith, broken numbered);
     })
 
@@ -188,7 +188,7 @@ put-values-spec =
     tie.close
     (tie.spec
     enum-known-v
-    fault-number-requires
+    number-requires
     put-spaced-requires
     put-spaced-requires-2
     enum-known-v-2
