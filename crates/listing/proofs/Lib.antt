@@ -8,3 +8,4 @@ pub mod JudgeTexts
 pub mod HandedOver
 pub mod Claims
 pub mod Answers
+pub mod Examples

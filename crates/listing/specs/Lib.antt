@@ -2,3 +2,4 @@
 pub mod Text
 pub mod Printing
 pub mod Claims
+pub mod Examples

@@ -42,6 +42,12 @@ slice-aggregate-put-named-3 c = search needs
 cast-put-named-3 : tie.Need-cast-put-named-3
 cast-put-named-3 c = search needs
 
+returns-3 : tie.Need-returns-3
+unfolding commandText named text
+returns-3 c =
+    let called = c .before .before .before .before .before .before in
+    rw (called .before .before .before .before .c3 .given .1) (stored-more (called .put-named3 .ensures) (c .before .before .put-spaced .ensures))
+
 put-named-requires-3 : tie.Need-put-named-requires-3
 unfolding commandText named text
 put-named-requires-3 c κs =
@@ -85,6 +91,12 @@ slice-aggregate-put-named-5 c = search needs
 cast-put-named-5 : tie.Need-cast-put-named-5
 cast-put-named-5 c = search needs
 
+returns-5 : tie.Need-returns-5
+unfolding commandText named text
+returns-5 c =
+    let called = c .before .before .before .before .before .before in
+    rw (called .before .before .before .before .c5 .given .1) (stored-more (called .put-named5 .ensures) (c .before .before .put-spaced2 .ensures))
+
 put-named-requires-5 : tie.Need-put-named-requires-5
 unfolding commandText named text
 put-named-requires-5 c κs =
@@ -123,12 +135,6 @@ returns-2 c = rw (c .before .before .before .before .before .before .c2 .given .
 same-length-3 : tie.Need-same-length-3
 same-length-3 c = search needs
 
-returns-3 : tie.Need-returns-3
-unfolding commandText named text
-returns-3 c =
-    let called = c .before .before .before .before .before .before in
-    rw (called .before .before .before .before .c3 .given .1) (stored-more (called .put-named3 .ensures) (c .before .before .put-spaced .ensures))
-
 same-length-4 : tie.Need-same-length-4
 same-length-4 c = search needs
 
@@ -138,12 +144,6 @@ returns-4 c = rw (c .before .before .before .before .before .before .c4 .given .
 
 same-length-5 : tie.Need-same-length-5
 same-length-5 c = search needs
-
-returns-5 : tie.Need-returns-5
-unfolding commandText named text
-returns-5 c =
-    let called = c .before .before .before .before .before .before in
-    rw (called .before .before .before .before .c5 .given .1) (stored-more (called .put-named5 .ensures) (c .before .before .put-spaced2 .ensures))
 
 pub put-command-spec : {M : Type 1} → statement M
 put-command-spec =

@@ -65,6 +65,14 @@ returns c =
 add-put-line : tie.Need-add-put-line Inv-loop μ-loop
 add-put-line c = search needs
 
+loop-again : tie.Need-loop-again Inv-loop μ-loop
+loop-again c =
+    let read = c .before .before .before .before .before in
+    let now = read .before .before .before .before in
+    let start = now .before .before .before .before in
+    one-line (commandsOf (scriptOf (start .args .script .now))) (now .loop .k) (now .loop .inv) (read .d .given .0 .0) (next-is read)
+    (c .before .before .put-line .ensures)
+
 put-line-requires : tie.Need-put-line-requires Inv-loop μ-loop
 put-line-requires c κs =
     let read = c .before .before in
@@ -77,14 +85,6 @@ add-k c = search needs
 
 loop-less : tie.Need-loop-less Inv-loop μ-loop
 loop-less c = search needs
-
-loop-again : tie.Need-loop-again Inv-loop μ-loop
-loop-again c =
-    let read = c .before .before .before .before .before in
-    let now = read .before .before .before .before in
-    let start = now .before .before .before .before in
-    one-line (commandsOf (scriptOf (start .args .script .now))) (now .loop .k) (now .loop .inv) (read .d .given .0 .0) (next-is read)
-    (c .before .before .put-line .ensures)
 
 same-length-2 : tie.Need-same-length-2 Inv-loop μ-loop
 same-length-2 c = stored-long (c .before .loop .inv .stored)

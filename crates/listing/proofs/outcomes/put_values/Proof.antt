@@ -80,6 +80,21 @@ put-spaced-requires-4 c κs =
 enum-known-v-3 : tie.Need-enum-known-v-3
 enum-known-v-3 c = search needs
 
+returns-3 : tie.Need-returns-3
+unfolding verdictNumbers
+returns-3 c =
+    let second = c .before .before .before .before .before .before in
+    let first = second .before .before .before .before in
+    let told = first .before .before in
+    let step = told .before .v3 .given .0 .0 in
+    let rule = told .before .v3 .given .0 .1 .0 in
+    rw (told .before .v3 .given .1)
+    (record {
+      put = all-more 30 (step ∷ rule ∷ []) (first .put-spaced5 .ensures)
+          (all-more step (rule ∷ []) (second .put-spaced6 .ensures) (all-last rule (c .before .before .put-spaced7 .ensures)));
+      short = unordered told;
+    })
+
 put-spaced-requires-5 : tie.Need-put-spaced-requires-5
 put-spaced-requires-5 c κs =
     let told = c .before in
@@ -149,21 +164,6 @@ returns-2 c =
 
 same-length-3 : tie.Need-same-length-3
 same-length-3 c = search needs
-
-returns-3 : tie.Need-returns-3
-unfolding verdictNumbers
-returns-3 c =
-    let second = c .before .before .before .before .before .before in
-    let first = second .before .before .before .before in
-    let told = first .before .before in
-    let step = told .before .v3 .given .0 .0 in
-    let rule = told .before .v3 .given .0 .1 .0 in
-    rw (told .before .v3 .given .1)
-    (record {
-      put = all-more 30 (step ∷ rule ∷ []) (first .put-spaced5 .ensures)
-          (all-more step (rule ∷ []) (second .put-spaced6 .ensures) (all-last rule (c .before .before .put-spaced7 .ensures)));
-      short = unordered told;
-    })
 
 same-length-4 : tie.Need-same-length-4
 same-length-4 c = search needs

@@ -14,6 +14,17 @@ start c = c .before .before .before .before .before
 abbrev at-why : tie.After-put-named2 → tie.After-put-named
 at-why c = c .before .before .before .before .before
 
+returns : tie.Need-returns
+unfolding refusedText named text
+returns c =
+    let position = c .before .before .before .before .before .before .before in
+    let why = at-why position in
+    rw (← why .before .before .before .number .ensures)
+    (record {
+      put = stored-more (why .put-named .ensures) (stored-more (position .put-named2 .ensures) (c .before .before .put-word .ensures));
+      ends = rw (why .before .before .before .number .ensures) (omega (arith, refused-short (record { why = start why .args .why; at = start why .args .at }) (omega (arith, start why .fits .at))));
+    })
+
 number-requires : tie.Need-number-requires
 number-requires c κs = search needs
 
@@ -51,17 +62,6 @@ put-word-requires c κs =
 
 same-length : tie.Need-same-length
 same-length c = search needs
-
-returns : tie.Need-returns
-unfolding refusedText named text
-returns c =
-    let position = c .before .before .before .before .before .before .before in
-    let why = at-why position in
-    rw (← why .before .before .before .number .ensures)
-    (record {
-      put = stored-more (why .put-named .ensures) (stored-more (position .put-named2 .ensures) (c .before .before .put-word .ensures));
-      ends = rw (why .before .before .before .number .ensures) (omega (arith, refused-short (record { why = start why .args .why; at = start why .args .at }) (omega (arith, start why .fits .at))));
-    })
 
 pub put-why-spec : {M : Type 1} → statement M
 put-why-spec =

@@ -1,0 +1,21 @@
+-- The texts that document 01 prints are those of the definitions: antt computes both sides. Assumes nothing.
+use mathlib.Core.Path.{refl}
+use Rattle.policy.specs.Lists.{all, pick, mem, contains, before, after, without, missing, same}
+use Rattle.policy.specs.Command.{ruleAt, lifted, placed, moved, faultNumber}
+use Rattle.policy.specs.AppendDelete.{keptRun, planOne}
+use Rattle.policy.specs.InsertDeleteMove.{ownChoice, keptTwo, inserted, reached, moveUp, already, raised, left, takeOne}
+use Rattle.policy.specs.InsertDeleteMove.{stageOne, firstStage, ahead, stageTwo, secondStage, planTwo}
+use Rattle.policy.specs.Judge.{verdictNumbers}
+use Rattle.listing.specs.Text.{text, digits, decimal, spaced, named, commandText, lineText, linesText, headText, blockText, planBlock, planText}
+use Rattle.listing.specs.Text.{refusedText, spacedAll, verdictText}
+use Rattle.listing.specs.Examples.{first-example, FirstExamplePrinted, LinesPrinted}
+
+pub first-example-printed : FirstExamplePrinted
+unfolding first-example all pick mem contains before after without missing same ruleAt lifted placed moved keptRun planOne
+    ownChoice keptTwo inserted reached moveUp already raised left takeOne stageOne firstStage ahead stageTwo secondStage planTwo
+    text digits decimal spaced named commandText lineText linesText headText blockText planBlock planText
+first-example-printed = refl
+
+pub lines-printed : LinesPrinted
+unfolding text digits decimal spaced named refusedText spacedAll verdictText verdictNumbers faultNumber
+lines-printed = (refl, refl, refl, refl)
