@@ -18,7 +18,6 @@ use judge::Judged;
 use libc::STDOUT_FILENO;
 use planner::Planned;
 use policy::Action;
-use policy::Fault;
 use policy::Flow;
 use policy::Verdict;
 use reader::Checking;
@@ -71,15 +70,6 @@ fn print(word: &[u8]) {
     io::write_all(STDOUT_FILENO, word);
 }
 
-fn fault_number(fault: Fault) -> usize {
-    match fault {
-        Fault::Present => 20,
-        Fault::Absent => 21,
-        Fault::Place => 22,
-        Fault::Number => 23,
-    }
-}
-
 fn print_decided(word: &[u8], answer: Decided) {
     print(word);
     match answer {
@@ -99,7 +89,7 @@ fn print_decided(word: &[u8], answer: Decided) {
 fn print_verdict(verdict: Verdict) {
     match verdict {
         Verdict::Broken(fault, step) => {
-            print_number(b"verdict ", fault_number(fault));
+            print_number(b"verdict ", fault.number() as usize);
             print_number(b" ", step);
         }
         Verdict::Elsewhere(count) => print_number(b"verdict 24 ", count),
@@ -157,7 +147,7 @@ fn print_ran(answer: Ran, place: &[u8]) {
         Ran::Turned(refusal) => print_refusal(refusal),
         Ran::Ended(bytes) => print_number(b"ended ", bytes),
         Ran::Broken(fault, step) => {
-            print_number(b"broken ", fault_number(fault));
+            print_number(b"broken ", fault.number() as usize);
             print_number(b" at ", step);
         }
     }

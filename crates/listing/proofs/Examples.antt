@@ -1,7 +1,7 @@
 -- The texts that document 01 prints are those of the definitions: antt computes both sides. Assumes nothing.
 use mathlib.Core.Path.{refl}
 use Rattle.policy.specs.Lists.{all, pick, mem, contains, before, after, without, missing, same}
-use Rattle.policy.specs.Command.{ruleAt, lifted, placed, moved, faultNumber}
+use Rattle.policy.specs.Command.{ruleAt, lifted, placed, moved}
 use Rattle.policy.specs.AppendDelete.{keptRun, planOne}
 use Rattle.policy.specs.InsertDeleteMove.{ownChoice, keptTwo, inserted, reached, moveUp, already, raised, left, takeOne}
 use Rattle.policy.specs.InsertDeleteMove.{stageOne, firstStage, ahead, stageTwo, secondStage, planTwo}
@@ -17,5 +17,5 @@ unfolding first-example all pick mem contains before after without missing same 
 first-example-printed = refl
 
 pub lines-printed : LinesPrinted
-unfolding text digits decimal spaced named refusedText spacedAll verdictText verdictNumbers faultNumber
+unfolding text digits decimal spaced named refusedText spacedAll verdictText verdictNumbers
 lines-printed = (refl, refl, refl, refl)

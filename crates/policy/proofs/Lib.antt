@@ -18,3 +18,4 @@ pub mod InsertDeleteMove
 pub mod Plans
 pub mod Examples
 pub mod Traps
+pub mod Answers

@@ -55,6 +55,9 @@ enum-known-v c = search needs
 number-requires : tie.Need-number-requires
 number-requires c κs = search needs
 
+cast-put-spaced : tie.Need-cast-put-spaced
+cast-put-spaced c = search needs
+
 put-spaced-requires : tie.Need-put-spaced-requires
 put-spaced-requires c κs = all-first _ (c .number .result) (c .before .before .before .v .given .0 .1 .0 ∷ []) (broken-ends c)
 
@@ -66,6 +69,9 @@ put-spaced-requires-2 c κs =
 
 enum-known-v-2 : tie.Need-enum-known-v-2
 enum-known-v-2 c = search needs
+
+cast-put-spaced-2 : tie.Need-cast-put-spaced-2
+cast-put-spaced-2 c = search needs
 
 put-spaced-requires-3 : tie.Need-put-spaced-requires-3
 put-spaced-requires-3 c κs = let told = c .before in all-first _ 24 (told .before .v2 .given .0 .0 ∷ []) (elsewhere-ends told)
@@ -95,6 +101,9 @@ returns-3 c =
       short = unordered told;
     })
 
+cast-put-spaced-3 : tie.Need-cast-put-spaced-3
+cast-put-spaced-3 c = search needs
+
 put-spaced-requires-5 : tie.Need-put-spaced-requires-5
 put-spaced-requires-5 c κs =
     let told = c .before in
@@ -122,11 +131,17 @@ put-spaced-requires-7 c κs =
 enum-told : tie.Need-enum-told
 enum-told c = search needs
 
+cast-put-spaced-4 : tie.Need-cast-put-spaced-4
+cast-put-spaced-4 c = search needs
+
 put-spaced-requires-8 : tie.Need-put-spaced-requires-8
 put-spaced-requires-8 c κs = all-first _ 31 [] (omega (arith, one-more 31 [] 0 (omega arith) none-yet, c .before .before .before .before .pre))
 
 enum-told-2 : tie.Need-enum-told-2
 enum-told-2 c = search needs
+
+cast-put-spaced-5 : tie.Need-cast-put-spaced-5
+cast-put-spaced-5 c = search needs
 
 put-spaced-requires-9 : tie.Need-put-spaced-requires-9
 put-spaced-requires-9 c κs = all-first _ 32 [] (omega (arith, one-more 32 [] 0 (omega arith) none-yet, c .before .before .before .before .pre))
@@ -189,18 +204,23 @@ put-values-spec =
     (tie.spec
     enum-known-v
     number-requires
+    cast-put-spaced
     put-spaced-requires
     put-spaced-requires-2
     enum-known-v-2
+    cast-put-spaced-2
     put-spaced-requires-3
     put-spaced-requires-4
     enum-known-v-3
+    cast-put-spaced-3
     put-spaced-requires-5
     put-spaced-requires-6
     put-spaced-requires-7
     enum-told
+    cast-put-spaced-4
     put-spaced-requires-8
     enum-told-2
+    cast-put-spaced-5
     put-spaced-requires-9
     same-length
     returns
