@@ -226,7 +226,7 @@ fields catalogue initial target keep script =
 abbrev rulesOnly : List Rule → Fields
 rulesOnly catalogue = fields catalogue none none none none
 
-abbrev ruleField : Rule → List ℕ
+abbrev pub ruleField : Rule → List ℕ
 ruleField rule = fieldBytes rule-tag (ruleBytes rule)
 
 through-rule : (catalogue : List Rule) (rule : Rule) → length catalogue < most-rules → Recordable rule

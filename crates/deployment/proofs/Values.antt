@@ -35,6 +35,7 @@ use Rattle.policy.specs.declared.Action.{Action}
 use Rattle.policy.specs.declared.Action.the-variants.{Deny, Permit}
 use Rattle.policy.specs.declared.Command.{Command}
 use Rattle.policy.specs.declared.Command.the-variants.{App, DelRule, Ins, DelPlace, Mov}
+use Rattle.policy.proofs.Decisions.{same-action-eq, eq-same-action}
 use Rattle.policy.proofs.Order.{sublist-in}
 use Rattle.policy.proofs.Tests.{byTest, never, and-both, both-and, or-either, or-left, or-right, or-neither, falsely}
 use Rattle.deployment.specs.Bytes.{number, bytesOf, part, chunks, joined}
@@ -282,18 +283,6 @@ module _ (value : List ℕ) (h : AreBytes value) (long : length value ≡ 27) (f
       }
 
 -- Equal rules.
-pub same-action-eq : (a b : Action) → sameAction a b ≡ true → a ≡ b
-unfolding sameAction
-same-action-eq Deny Deny e = refl
-same-action-eq Deny Permit e = never e refl
-same-action-eq Permit Deny e = never e refl
-same-action-eq Permit Permit e = refl
-
-pub same-action-refl : (a : Action) → sameAction a a ≡ true
-unfolding sameAction
-same-action-refl Deny = refl
-same-action-refl Permit = refl
-
 same-range-eq : (a b : Range) → sameRange a b ≡ true → a ≡ b
 unfolding sameRange
 same-range-eq a b e =
@@ -326,7 +315,7 @@ same-rule-eq a b e =
 pub same-rule-refl : (a : Rule) → sameRule a a ≡ true
 unfolding sameRule
 same-rule-refl a =
-    and-six (same-action-refl (a .action)) (same-range-refl (a .protocol)) (same-range-refl (a .source))
+    and-six (eq-same-action (a .action) (a .action) refl) (same-range-refl (a .protocol)) (same-range-refl (a .source))
     (same-range-refl (a .source-port)) (same-range-refl (a .destination)) (same-range-refl (a .destination-port))
 
 pub known-in : (rule : Rule) (catalogue : List Rule) → known rule catalogue ≡ true → List·Memᴰ rule catalogue

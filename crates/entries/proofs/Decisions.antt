@@ -27,7 +27,7 @@ use Rattle.reader.specs.declared.Span.{Span}
 use Rattle.reader.specs.declared.Layout.{Layout}
 use Rattle.reader.specs.declared.FileRead.the-variants.{Refused}
 use Rattle.reader.proofs.Given.{Rules, failed, policy-passed}
-use Rattle.reader.proofs.ShownReadings.{shown-refused}
+use Rattle.reader.proofs.ShownReadings.{file-refused}
 use Rattle.reader.proofs.FileAnswers.{Holds}
 use Rattle.entries.specs.Answers.{decidedContents, decidedReading, decidedValues, decidedAtZero}
 use Rattle.entries.specs.declared.Decided.the-variants as decided
@@ -35,8 +35,8 @@ use Rattle.entries.specs.declared.Decided.the-variants as decided
 -- A file that is turned away.
 pub turned-file : (of-target : Bool) (flow : Flow) (file : List ℕ) (refusal : Refusal) → Refused refusal ≡ fileRead file
     → decided.Turned refusal ≡ decidedReading of-target flow (readFile file)
-unfolding decidedReading fileRead
-turned-file of-target flow file refusal e = rw (shown-refused (readFile file) refusal e, decidedReading)
+unfolding decidedReading
+turned-file of-target flow file refusal e = rw (file-refused file refusal e, decidedReading)
 
 -- The policy that is asked for.
 module _ {of-target : Bool} {list : Span} (target initial : Span) where

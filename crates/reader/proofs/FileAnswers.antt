@@ -33,7 +33,7 @@ use Rattle.reader.proofs.Places.{
   catalogue-front,
   catalogue-first,
 }
-use Rattle.reader.proofs.ShownReadings.{shown-refused, shown-accepted}
+use Rattle.reader.proofs.ShownReadings.{file-refused, shown-accepted}
 use Rattle.reader.proofs.ToJudge.{scripted}
 use Rattle.reader.proofs.file.read.Reads as read
 use Rattle.reader.proofs.file.read_to_judge.Reads as read-to-judge
@@ -175,7 +175,7 @@ written-file c valid = rw (read-back c valid .1)
 pub refused-file : RefusedFile
 unfolding fileRead shown
 refused-file file refusal b = (
-  λ e. refusals file (refusal .why) (refusal .at) b .0 (shown-refused (readFile file) refusal (sym e)),
+  λ e. refusals file (refusal .why) (refusal .at) b .0 (file-refused file refusal (sym e)),
   λ h. rw (refusals file (refusal .why) (refusal .at) b .1 h),
 )
 

@@ -12,11 +12,11 @@ use Rattle.policy.specs.Rule.{Rule}
 use Rattle.deployment.specs.Bytes.{bytesOf, part, chunks, joined}
 use Rattle.deployment.specs.Values.{Script, ruleOf, ruleBytes, numbersBytes, scriptBytes}
 use Rattle.deployment.specs.Catalogue.{recordCount, recordsOf, catalogueOf}
-use Rattle.deployment.specs.File.{Fields, listed, fieldBytes, ifThere, rule-tag, initial-tag, target-tag, keep-tag, script-tag}
+use Rattle.deployment.specs.File.{Fields, listed, fieldBytes, ifThere, initial-tag, target-tag, keep-tag, script-tag}
 use Rattle.deployment.specs.Properties.{Recordable, fieldsBytes}
 use Rattle.deployment.proofs.Records.{part-between}
 use Rattle.deployment.proofs.Values.{map-back, rule-read}
-use Rattle.deployment.proofs.ReadBack.{length-field, rules-length, rule-fields-wide}
+use Rattle.deployment.proofs.ReadBack.{length-field, rules-length, rule-fields-wide, ruleField}
 use Rattle.reader.specs.Answers.{valueAt, spanFrom, absent, spanIf, endOf, keepBytes, commandBytes}
 use Rattle.reader.specs.Steps.{layoutSoFar}
 use Rattle.reader.specs.declared.Span.{Span}
@@ -72,9 +72,6 @@ module _ (before : List ℕ) (tag : ℕ) where
   script-ends (some s) = omega (arith, length-append before (fieldBytes tag (scriptBytes s)), length-field tag (scriptBytes s))
 
 -- The pieces of fields, one after another.
-abbrev ruleField : Rule → List ℕ
-ruleField rule = fieldBytes rule-tag (ruleBytes rule)
-
 abbrev rulesPart : Fields → List ℕ
 rulesPart f = joined (map ruleField (f .catalogue))
 

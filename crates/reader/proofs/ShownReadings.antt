@@ -3,10 +3,11 @@
 use Prim.Native.Nat.{ℕ}
 use native.Mathlib.Omega.{arith}
 use mathlib.Core.Path.{_≡_, refl, ap}
+use mathlib.Core.List.{List}
 use Rattle.deployment.specs.Contents.{Contents}
-use Rattle.deployment.specs.File.{Reading, accepted, refused}
+use Rattle.deployment.specs.File.{Reading, accepted, refused, readFile}
 use Rattle.deployment.specs.declared.Refusal.{Refusal}
-use Rattle.reader.specs.Answers.{layoutOf, shown}
+use Rattle.reader.specs.Answers.{layoutOf, shown, fileRead}
 use Rattle.reader.specs.declared.Layout.{Layout}
 use Rattle.reader.specs.declared.FileRead.the-variants.{Accepted, Refused}
 
@@ -14,6 +15,10 @@ pub shown-refused : (reading : Reading) (refusal : Refusal) → Refused refusal 
 unfolding shown
 shown-refused (accepted c) refusal e = absurd (let z : _≡_ {A = ℕ} 0 1 = cc in omega arith)
 shown-refused (refused other) refusal e = ap refused (cc)
+
+pub file-refused : (file : List ℕ) (refusal : Refusal) → Refused refusal ≡ fileRead file → readFile file ≡ refused refusal
+unfolding fileRead
+file-refused file = shown-refused (readFile file)
 
 pub shown-accepted : (reading : Reading) (layout : Layout) → Accepted layout ≡ shown reading
     → (c : Contents) × (layout ≡ layoutOf c) × (reading ≡ accepted c)

@@ -17,7 +17,7 @@ use Rattle.deployment.proofs.Values.{byOption}
 use Rattle.reader.specs.Answers.{there, layoutOf, shown, fileRead}
 use Rattle.reader.specs.declared.Layout.{Layout}
 use Rattle.reader.specs.declared.FileRead.the-variants.{Accepted, Refused}
-use Rattle.reader.proofs.ShownReadings.{shown-refused, shown-accepted}
+use Rattle.reader.proofs.ShownReadings.{file-refused, shown-accepted}
 
 -- a script that may be there
 asked : (size : ℕ) (c : Contents) (script : Option Script) → Reading
@@ -36,8 +36,8 @@ with-one size c (some s) e = refl
 
 module _ (file : List ℕ) where
   pub refused-too : (refusal : Refusal) → Refused refusal ≡ fileRead file → Refused refusal ≡ shown (readToJudge file)
-  unfolding fileRead shown readToJudge needsScript
-  refused-too refusal e = rw (shown-refused (readFile file) refusal e)
+  unfolding shown readToJudge needsScript
+  refused-too refusal e = rw (file-refused file refusal e)
 
   -- what is accepted for the judge has a script
   pub scripted : (c : Contents) → readToJudge file ≡ accepted c → (readFile file ≡ accepted c) × ((s : Script) × (c .script ≡ some s))

@@ -7,10 +7,10 @@ use Prim.Native.Nat.{ℕ}
 use borrow.Author.Needs.{needs}
 use Rattle.deployment.specs.File.{readFile}
 use Rattle.deployment.proofs.Bytes.{elements-are-bytes}
-use Rattle.reader.specs.Answers.{valueAt, fileRead}
+use Rattle.reader.specs.Answers.{valueAt}
 use Rattle.reader.specs.declared.Layout.{Layout}
 use Rattle.planner.specs.Plans.{madeOne}
-use Rattle.reader.proofs.ShownReadings.{shown-refused}
+use Rattle.reader.proofs.ShownReadings.{file-refused}
 use Rattle.planner.proofs.GivenLists.{Accepts, asked, one-for-contents, turned-away, file-accepted}
 use Rattle.planner.proofs.plan_one_file.Statement.{statement}
 use Rattle.planner.proofs.plan_one_file.Tie as tie
@@ -54,12 +54,11 @@ one-into-requires : tie.Need-one-into-requires
 one-into-requires c κs = let a = asked (listed (c .before)) in (a .0 .first, a .1, a .2)
 
 returns : tie.Need-returns
-unfolding fileRead
 returns c =
     let read = c .before .before .before in
     let args = read .before .before .before .args in
     turned-away madeOne (readFile (args .file .now)) _ (args .place .now)
-    (shown-refused (readFile (args .file .now)) _ (sym (c .before .found .given .1) ∙ read .read .ensures))
+    (file-refused (args .file .now) _ (sym (c .before .found .given .1) ∙ read .read .ensures))
 
 same-length : tie.Need-same-length
 same-length c = search needs

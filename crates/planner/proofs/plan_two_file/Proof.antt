@@ -7,10 +7,9 @@ use Prim.Native.Nat.{ℕ}
 use borrow.Author.Needs.{needs}
 use Rattle.deployment.specs.File.{readFile}
 use Rattle.deployment.proofs.Bytes.{elements-are-bytes}
-use Rattle.reader.specs.Answers.{fileRead}
 use Rattle.reader.specs.declared.Layout.{Layout}
 use Rattle.planner.specs.Plans.{madeTwo}
-use Rattle.reader.proofs.ShownReadings.{shown-refused}
+use Rattle.reader.proofs.ShownReadings.{file-refused}
 use Rattle.planner.proofs.GivenLists.{Accepts, asked, two-for-contents, turned-away, file-accepted}
 use Rattle.planner.proofs.plan_two_file.Statement.{statement}
 use Rattle.planner.proofs.plan_two_file.Tie as tie
@@ -57,12 +56,11 @@ two-into-requires : tie.Need-two-into-requires
 two-into-requires c κs = asked (listed (c .before))
 
 returns : tie.Need-returns
-unfolding fileRead
 returns c =
     let read = c .before .before .before in
     let args = read .before .before .before .args in
     turned-away madeTwo (readFile (args .file .now)) _ (args .place .now)
-    (shown-refused (readFile (args .file .now)) _ (sym (c .before .found .given .1) ∙ read .read .ensures))
+    (file-refused (args .file .now) _ (sym (c .before .found .given .1) ∙ read .read .ensures))
 
 same-length : tie.Need-same-length
 same-length c = search needs
