@@ -1,7 +1,7 @@
 -- What is written reads back: the reader goes through the bytes of fields that can have been read and has those fields then, so
 -- valid contents come back from their file and from their field values. The idea: bytes lead the reader from fields to fields,
 -- and bytes one after another lead it on. Assumes nothing.
-use Prim.Native.Nat.{ℕ, zero, suc, _+_, _*_, _-_, _/_, _%_, _≤_, _<_}
+use Prim.Native.Nat.{ℕ, zero, suc, _+_, _*_, _/_, _%_, _≤_, _<_}
 use native.Mathlib.Nat.{add-zero, zero-add, not-suc-le-zero, le-of-suc-le-suc}
 use native.Mathlib.Omega.{arith}
 use mathlib.Core.Path.{_≡_, refl, sym, _∙_, ap}
@@ -32,11 +32,11 @@ use Rattle.policy.specs.Lists.{mem}
 use Rattle.policy.specs.Policy.{most-rules, most-listed}
 use Rattle.policy.specs.Rule.{Rule}
 use Rattle.policy.specs.Claims.{Keepable}
-use Rattle.policy.proofs.Tests.{both-and, or-left}
+use Rattle.policy.proofs.Tests.{or-left}
 use Rattle.policy.proofs.Lists.{in-all}
 use Rattle.policy.proofs.Order.{distinct-differ, sublist-occurs, sublist-in, sublist-distinct, within-length}
 use Rattle.deployment.specs.Checked.{good}
-use Rattle.deployment.specs.Bytes.{number, bytesOf, part, chunks, joined}
+use Rattle.deployment.specs.Bytes.{number, bytesOf, part, joined}
 use Rattle.deployment.specs.Values.{Script, ruleBytes, numbersBytes, scriptBytes, listFits, scriptFits}
 use Rattle.deployment.specs.Contents.{Contents, ruleRead, policyRead, keepRead, scriptRead}
 use Rattle.deployment.specs.File.{
@@ -88,23 +88,20 @@ use Rattle.deployment.specs.Properties.{
   fieldsBytes,
 }
 use Rattle.deployment.specs.Claims.{ReadBack, ValuesReadBack, valuesOf}
-use Rattle.deployment.proofs.Bytes.{
-  are-bytes-append,
-  bytes-are-bytes,
-  number-bytes,
-  chunks-joined,
-  length-joined,
-  are-bytes-joined,
-}
+use Rattle.deployment.proofs.Bytes.{are-bytes-append, bytes-are-bytes, number-bytes, length-joined, are-bytes-joined}
+use Rattle.deployment.proofs.Tests.{says-list, says-script}
 use Rattle.deployment.proofs.Values.{
   rule-read,
   rule-fits,
   length-rule,
+  length-rules,
+  rules-apart,
   rule-are-bytes,
   not-known,
   length-numbers,
   numbers-are-bytes,
-  numbers-read,
+  policy-numbers,
+  keep-numbers,
   length-script,
   script-are-bytes,
   script-read,
@@ -121,7 +118,7 @@ pub policy-reads : (size : ℕ) (policy : List ℕ) → size ≤ most-rules → 
 unfolding policyRead
 policy-reads size policy few h =
     rw (
-      numbers-read policy (λ n t. omega (arith, h .sound .inside n t)),
+      policy-numbers size policy few (h .sound),
       in-all (λ r. ltb r size) policy (λ r t. lt-ltb r size (h .sound .inside r t)),
       distinct-differ policy (h .sound .distinct),
     )
@@ -131,7 +128,7 @@ pub keep-reads : (size : ℕ) (initial target keep : List ℕ) → size ≤ most
 unfolding keepRead
 keep-reads size initial target keep few h s t =
     rw (
-      numbers-read keep (λ n k. omega (arith, h .sound .inside n (sublist-in t n k))),
+      keep-numbers size target keep few (h .sound) t,
       sublist-occurs keep initial s,
       sublist-occurs keep target t,
     )
@@ -140,20 +137,11 @@ pub script-reads : (s : Script) → Scripted s → scriptRead (scriptBytes s) �
 unfolding scriptRead
 script-reads s h = rw (script-read s h, scriptRead)
 
-list-fits : (numbers : List ℕ) → length numbers ≤ most-listed → listFits (length (numbersBytes numbers)) ≡ true
-unfolding listFits
-list-fits numbers few =
-    rw (length-numbers numbers)
-    (both-and (eq-eqb (2 * length numbers % 2) 0 (omega arith)) (le-leb (2 * length numbers) 1024 (omega arith)))
+pub list-fits : (numbers : List ℕ) → length numbers ≤ most-listed → listFits (length (numbersBytes numbers)) ≡ true
+list-fits numbers few = says-list (length (numbersBytes numbers)) .1 (length numbers, length-numbers numbers, few)
 
-script-fits : (s : Script) → Scripted s → scriptFits (length (scriptBytes s)) ≡ true
-unfolding scriptFits
-script-fits s h =
-    let n = length (s .commands) in
-    let few : n ≤ 2048 = h .few in
-    rw (length-script s)
-    (both-and (both-and (le-leb 1 (1 + 5 * n) (omega arith)) (eq-eqb ((1 + 5 * n - 1) % 5) 0 (omega arith)))
-    (le-leb (1 + 5 * n) 10241 (omega arith)))
+pub script-fits : (s : Script) → Scripted s → scriptFits (length (scriptBytes s)) ≡ true
+script-fits s h = says-script (length (scriptBytes s)) .1 (length (s .commands), length-script s, h .few)
 
 -- a keep list has no more rules than a policy in which it occurs
 pub keep-few : (size : ℕ) (policy keep : List ℕ) → Listed size policy → Sublistᴰ keep policy → length keep ≤ most-listed
@@ -238,7 +226,7 @@ fields catalogue initial target keep script =
 abbrev rulesOnly : List Rule → Fields
 rulesOnly catalogue = fields catalogue none none none none
 
-abbrev ruleField : Rule → List ℕ
+abbrev pub ruleField : Rule → List ℕ
 ruleField rule = fieldBytes rule-tag (ruleBytes rule)
 
 through-rule : (catalogue : List Rule) (rule : Rule) → length catalogue < most-rules → Recordable rule
@@ -397,13 +385,14 @@ read-back c h = (
 )
 
 -- "An accepted file never exceeds 44,045 bytes": 1,024 rules of 30, two policies and a keep list of 1,027, a script of 10,244.
+pub rule-fields-wide : (catalogue : List Rule) (piece : List ℕ) → List·Memᴰ piece (map ruleField catalogue) → length piece ≡ 30
+rule-fields-wide catalogue piece t =
+    let at = Memᴰ·of-map ruleField catalogue t in
+    rw (← at .2) (omega (arith, length-field rule-tag (ruleBytes (at .0)), length-rule (at .0)))
+
 pub rules-length : (catalogue : List Rule) → length (joined (map ruleField catalogue)) ≡ 30 * length catalogue
 rules-length catalogue =
-    length-joined 30 (map ruleField catalogue)
-    (λ piece t.
-    let at = Memᴰ·of-map ruleField catalogue t in
-    rw (← at .2) (omega (arith, length-field rule-tag (ruleBytes (at .0)), length-rule (at .0))))
-    ∙ ap (λ (n : ℕ). 30 * n) (length-map catalogue ruleField)
+    length-joined 30 (map ruleField catalogue) (rule-fields-wide catalogue) ∙ ap (λ (n : ℕ). 30 * n) (length-map catalogue ruleField)
 
 -- a property of what may be absent, from another
 there-too : {A : Type 0} (P Q : A → Type 0) → ((a : A) → P a → Q a) → (o : Option A) → IfThere P o → IfThere Q o
@@ -470,17 +459,12 @@ catalogue-back : (catalogue : List Rule) → Catalogue catalogue
 unfolding catalogueValue
 catalogue-back catalogue h =
     let value : List ℕ = joined (map ruleBytes catalogue) in
-    let wide : (piece : List ℕ) → List·Memᴰ piece (map ruleBytes catalogue) → length piece ≡ 27 =
-    λ piece t. let at = Memᴰ·of-map ruleBytes catalogue t in rw (← at .2) (length-rule (at .0)) in
-    let long : length value ≡ 27 * length catalogue =
-    length-joined 27 (map ruleBytes catalogue) wide ∙ ap (λ (n : ℕ). 27 * n) (length-map catalogue ruleBytes) in
+    let long : length value ≡ 27 * length catalogue = length-rules catalogue in
     let few : length catalogue ≤ 1024 = h .few in
     let whole : eqb (length value % 27) 0 ≡ true = eq-eqb (length value % 27) 0 (omega arith) in
     let short : leb (length value) 27648 ≡ true = le-leb (length value) 27648 (omega arith) in
     let counted : length value / 27 ≡ length catalogue = omega arith in
-    let pieces : chunks 27 (length catalogue) value ≡ map ruleBytes catalogue =
-    rw length-map at (chunks-joined 27 (map ruleBytes catalogue) wide) in
-    rw (whole, short, counted, pieces) (rules-back [] catalogue h)
+    rw (whole, short, counted, rules-apart catalogue) (rules-back [] catalogue h)
 
 keep-back : (size : ℕ) (initial target : List ℕ) (keep : Option (List ℕ)) → size ≤ most-rules → Listed size target
     → Keepable initial target keep

@@ -1,6 +1,6 @@
 -- Bytes stored one piece behind the other: a run of stores behind a run of stores is one run of both, so what is put piece by piece is
 -- what all pieces joined fill; and a store where the place has ended changes nothing. Assumes nothing.
-use Prim.Native.Nat.{ℕ, zero, suc, _+_, _-_, _≤_, _<_}
+use Prim.Native.Nat.{ℕ, zero, suc, _+_, _≤_, _<_}
 use native.Mathlib.Nat.{add-zero, add-suc, suc-add}
 use native.Mathlib.Numerals.{add-one}
 use native.Mathlib.Omega.{arith}

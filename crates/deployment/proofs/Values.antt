@@ -22,19 +22,23 @@ use mathlib.Core.List.{
   Memᴰ·of-map,
   List·Memᴰ·cases-cons,
   List·Memᴰ·not-nil,
+  Sublistᴰ,
 }
 use borrow.Author.Tests.{eqb-true, eqb-false, eq-eqb, leb-true, le-leb}
 use lib.Dec.{eqb, leb, lit<}
 use lib.ListN.{length, drop, length-map, length-drop, drop-of-length-le}
-use Rattle.policy.specs.Policy.{sameAction}
+use Rattle.policy.specs.Claims.{Policy}
+use Rattle.policy.specs.Policy.{sameAction, most-rules}
 use Rattle.policy.specs.Rule.{Range, Rule}
 use Rattle.policy.specs.Command.{Coded, coded, commandType}
 use Rattle.policy.specs.declared.Action.{Action}
 use Rattle.policy.specs.declared.Action.the-variants.{Deny, Permit}
 use Rattle.policy.specs.declared.Command.{Command}
 use Rattle.policy.specs.declared.Command.the-variants.{App, DelRule, Ins, DelPlace, Mov}
+use Rattle.policy.proofs.Decisions.{same-action-eq, eq-same-action}
+use Rattle.policy.proofs.Order.{sublist-in}
 use Rattle.policy.proofs.Tests.{byTest, never, and-both, both-and, or-either, or-left, or-right, or-neither, falsely}
-use Rattle.deployment.specs.Bytes.{number, bytesOf, part, chunks}
+use Rattle.deployment.specs.Bytes.{number, bytesOf, part, chunks, joined}
 use Rattle.deployment.specs.Values.{
   Script,
   actionOf,
@@ -157,6 +161,17 @@ pub length-rule : (rule : Rule) → length (ruleBytes rule) ≡ 27
 unfolding ruleBytes rangeBytes bytesOf
 length-rule rule = refl
 
+-- the value of rules: their records, one behind the other
+rules-wide : (catalogue : List Rule) (piece : List ℕ) → List·Memᴰ piece (map ruleBytes catalogue) → length piece ≡ 27
+rules-wide catalogue piece t = let at = Memᴰ·of-map ruleBytes catalogue t in rw (← at .2) (length-rule (at .0))
+
+pub length-rules : (catalogue : List Rule) → length (joined (map ruleBytes catalogue)) ≡ 27 * length catalogue
+length-rules catalogue =
+    length-joined 27 (map ruleBytes catalogue) (rules-wide catalogue) ∙ ap (λ (n : ℕ). 27 * n) (length-map catalogue ruleBytes)
+
+pub rules-apart : (catalogue : List Rule) → chunks 27 (length catalogue) (joined (map ruleBytes catalogue)) ≡ map ruleBytes catalogue
+rules-apart catalogue = rw length-map at (chunks-joined 27 (map ruleBytes catalogue) (rules-wide catalogue))
+
 range-are-bytes : (width : ℕ) (range : Range) → AreBytes (rangeBytes width range)
 unfolding rangeBytes
 range-are-bytes width range = are-bytes-append _ _ (bytes-are-bytes width (range .low)) (bytes-are-bytes width (range .high))
@@ -268,18 +283,6 @@ module _ (value : List ℕ) (h : AreBytes value) (long : length value ≡ 27) (f
       }
 
 -- Equal rules.
-pub same-action-eq : (a b : Action) → sameAction a b ≡ true → a ≡ b
-unfolding sameAction
-same-action-eq Deny Deny e = refl
-same-action-eq Deny Permit e = never e refl
-same-action-eq Permit Deny e = never e refl
-same-action-eq Permit Permit e = refl
-
-pub same-action-refl : (a : Action) → sameAction a a ≡ true
-unfolding sameAction
-same-action-refl Deny = refl
-same-action-refl Permit = refl
-
 same-range-eq : (a b : Range) → sameRange a b ≡ true → a ≡ b
 unfolding sameRange
 same-range-eq a b e =
@@ -312,7 +315,7 @@ same-rule-eq a b e =
 pub same-rule-refl : (a : Rule) → sameRule a a ≡ true
 unfolding sameRule
 same-rule-refl a =
-    and-six (same-action-refl (a .action)) (same-range-refl (a .protocol)) (same-range-refl (a .source))
+    and-six (eq-same-action (a .action) (a .action) refl) (same-range-refl (a .protocol)) (same-range-refl (a .source))
     (same-range-refl (a .source-port)) (same-range-refl (a .destination)) (same-range-refl (a .destination-port))
 
 pub known-in : (rule : Rule) (catalogue : List Rule) → known rule catalogue ≡ true → List·Memᴰ rule catalogue
@@ -371,6 +374,14 @@ numbers-read numbers h =
     numbers-at (numbersBytes numbers) (length numbers) (length-numbers numbers)
     ∙ ap (map number) (rw length-map at (chunks-joined 2 (map (bytesOf 2) numbers) (two-bytes numbers)))
     ∙ map-back (bytesOf 2) number numbers (λ n t. number-bytes 2 n (h n t))
+
+-- rules of a catalogue have numbers of two bytes
+pub policy-numbers : (size : ℕ) (policy : List ℕ) → size ≤ most-rules → Policy size policy → numbersOf (numbersBytes policy) ≡ policy
+policy-numbers size policy few h = numbers-read policy (λ n t. omega (arith, h .inside n t))
+
+pub keep-numbers : (size : ℕ) (policy keep : List ℕ) → size ≤ most-rules → Policy size policy → Sublistᴰ keep policy
+    → numbersOf (numbersBytes keep) ≡ keep
+keep-numbers size policy keep few h within = numbers-read keep (λ n t. omega (arith, h .inside n (sublist-in within n t)))
 
 -- Commands.
 pub command-read : (c : Command) → commandFrom (commandType c) (coded c) ≡ some c

@@ -15,34 +15,28 @@ use Rattle.deployment.specs.Checked.{Checked}
 use Rattle.deployment.specs.Bytes.{part, chunks}
 use Rattle.deployment.specs.Values.{rule-bytes, ruleOf, numbersOf}
 use Rattle.deployment.specs.Catalogue.{recordCount, recordsOf, catalogueOf}
-use Rattle.deployment.specs.Contents.{Contents, ruleRead}
-use Rattle.deployment.specs.File.{Reading, accepted, refused, readFile}
+use Rattle.deployment.specs.Contents.{ruleRead}
+use Rattle.deployment.specs.File.{readFile}
 use Rattle.deployment.specs.FieldValues.{rulesRead, catalogueValue, policyValue}
-use Rattle.deployment.specs.Properties.{AreBytes}
 use Rattle.deployment.specs.declared.Why.{Why}
 use Rattle.deployment.specs.declared.Refusal.{Refusal}
 use Rattle.deployment.proofs.Tests.{Each, each-then, tested, rule-tested}
-use Rattle.deployment.proofs.ReadBack.{read-back}
-use Rattle.reader.specs.Answers.{checking, valueAt, shown, fileRead}
-use Rattle.reader.specs.Claims.{Stands}
+use Rattle.reader.specs.Answers.{checking, valueAt, fileRead}
 use Rattle.reader.specs.declared.Checking.the-variants.{Good, Bad}
 use Rattle.reader.specs.declared.Span.{Span}
 use Rattle.reader.specs.declared.Layout.{Layout}
-use Rattle.reader.specs.declared.FileRead.the-variants.{Accepted, Refused}
+use Rattle.reader.specs.declared.FileRead.the-variants.{Refused}
 use Rattle.reader.proofs.Given.{Rules, failed, policy-passed}
-use Rattle.reader.proofs.FileAnswers.{accepted-file}
+use Rattle.reader.proofs.ShownReadings.{file-refused}
+use Rattle.reader.proofs.FileAnswers.{Holds}
 use Rattle.entries.specs.Answers.{decidedContents, decidedReading, decidedValues, decidedAtZero}
 use Rattle.entries.specs.declared.Decided.the-variants as decided
 
 -- A file that is turned away.
 pub turned-file : (of-target : Bool) (flow : Flow) (file : List ℕ) (refusal : Refusal) → Refused refusal ≡ fileRead file
     → decided.Turned refusal ≡ decidedReading of-target flow (readFile file)
-unfolding decidedReading fileRead shown
-turned-file of-target flow file refusal e = go (readFile file) e
-  where
-    go : (reading : Reading) → Refused refusal ≡ shown reading → decided.Turned refusal ≡ decidedReading of-target flow reading
-    go (accepted c) e = absurd (let z : _≡_ {A = ℕ} 0 1 = cc in omega arith)
-    go (refused other) e = let same : refusal ≡ other = cc in rw same
+unfolding decidedReading
+turned-file of-target flow file refusal e = rw (file-refused file refusal e, decidedReading)
 
 -- The policy that is asked for.
 module _ {of-target : Bool} {list : Span} (target initial : Span) where
@@ -53,18 +47,7 @@ module _ {of-target : Bool} {list : Span} (target initial : Span) where
   asked-initial e is = rw e is
 
 -- A file that is accepted: its contents stand in it.
-pub record Read (file : List ℕ) (layout : Layout) : Type 0 where
-  pub contents : Contents
-  pub stands : Stands file layout contents
-  pub is : readFile file ≡ accepted contents
-
-pub read-contents : (file : List ℕ) (layout : Layout) → AreBytes file → Accepted layout ≡ fileRead file → Read file layout
-read-contents file layout bytes e =
-    let found = accepted-file file layout bytes (sym e) in
-    let back = read-back (found .0) (found .1 .valid) in
-    record { contents = found .0; stands = found .1; is = rw (found .1 .written) at (back .1) }
-
-module _ {file : List ℕ} {layout : Layout} (read : Read file layout) where
+module _ {file : List ℕ} {layout : Layout} (read : Holds (readFile file) file layout) where
   pub few-rules : layout .rules ≤ 1024
   few-rules = omega (arith, read .stands .count, read .stands .valid .catalogue .few)
 

@@ -19,11 +19,11 @@ use Rattle.deployment.specs.File.{Reading, accepted, refused, readToJudge}
 use Rattle.deployment.specs.Properties.{Valid}
 use Rattle.deployment.proofs.Reader.{written-again}
 use Rattle.deployment.proofs.FieldValues.{values-written-again}
+use Rattle.reader.proofs.ToJudge.{scripted}
 use Rattle.replay.specs.Answers.{commandsOf}
 use Rattle.judge.specs.Answers.{judgedReading, judgedContents}
 use Rattle.judge.specs.Claims.{Row, Accepts, DecidesAsOne, OfEach, ByTable, VerdictByTable, SafeForFlows, NotFullForFlows}
 use Rattle.judge.specs.declared.Judged.the-variants.{Said}
-use Rattle.judge.proofs.ValuesRead.{scripted}
 
 -- a verdict and its row
 by-row : (size : ℕ) (initial target : List ℕ) (script : List Command) → Distinct initial → Distinct target

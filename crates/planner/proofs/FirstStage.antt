@@ -3,7 +3,7 @@
 use Prim.Native.Nat.{ℕ, suc, _+_, _≤_, _<_}
 use native.Mathlib.Numerals.{add-one}
 use native.Mathlib.Omega.{arith}
-use mathlib.Core.Path.{_≡_, refl, sym, _∙_, ap, ap₂, subst}
+use mathlib.Core.Path.{_≡_, refl, sym, _∙_, ap, subst}
 use mathlib.Core.Bool.{Bool, true, false}
 use mathlib.Core.Logic.{⊎-elim}
 use mathlib.Core.List.{List, [], _∷_, _++_, map, reverse, append-assoc, append-nil, List·Memᴰ, List·Memᴰ·head, List·Memᴰ·tail}
@@ -26,6 +26,7 @@ use Rattle.policy.proofs.StageOne.{Given, settled-waiting, take-cases, first-st
 use Rattle.policy.proofs.Stages.{rules-join, standing, standing-reverse}
 use Rattle.running.specs.declared.Running.{Running}
 use Rattle.running.specs.Running.{view}
+use Rattle.deployment.proofs.Values.{map-back}
 use Rattle.planner.specs.declared.insert_delete_move.Stage.{Stage}
 use Rattle.planner.specs.Sending.{Sent}
 use Rattle.planner.specs.Marks.{Marks}
@@ -135,15 +136,10 @@ one-standing x y (z ∷ front) d h k e =
     (λ t. ⊎-elim (λ g. absurd (d .0 (Memᴰ·cast (sym (ap ruleOf g) ∙ sym e) (Memᴰ·map ruleOf t)))) (λ s. one-standing x y front (d .1) t s e) (List·Memᴰ·cases-cons k))
     (List·Memᴰ·cases-cons h)
 
-map-back : (f : ℕ → Standing) (front : List Standing) → ((x : Standing) → List·Memᴰ x front → f (ruleOf x) ≡ x) → map f (map ruleOf front) ≡ front
-map-back f [] same = refl
-map-back f (x ∷ front) same =
-    ap₂ (λ (y : Standing) (l : List Standing). y ∷ l) (same x (List·Memᴰ·head refl)) (map-back f front (λ y h. same y (List·Memᴰ·tail h)))
-
 standing-marked : (marks : List Bool) (front : List Standing) → Marks marks (settledIn front) → Distinct (map ruleOf front)
     → ((r : ℕ) → In r (map ruleOf front) → r < 1024) → map (standingBy marks) (map ruleOf front) ≡ front
 unfolding standingBy ruleOf
-standing-marked marks front right d small = map-back (standingBy marks) front same
+standing-marked marks front right d small = map-back ruleOf (standingBy marks) front same
   where
     same : (x : Standing) → List·Memᴰ x front → standingBy marks (ruleOf x) ≡ x
     same (settled r) h = rw (right r (small r (Memᴰ·map ruleOf h)), in-mem r (settledIn front) (settled-listed r front h))

@@ -1,6 +1,6 @@
 -- The second stage, place by place from the last to the first. The list is what is left of the front, then the settled rules behind it; a rule
 -- of the target stands after another exactly when its place is greater. Assumes nothing.
-use Prim.Native.Nat.{ℕ, suc, _+_, _*_, _-_, _≤_, _<_}
+use Prim.Native.Nat.{ℕ, suc, _+_, _*_, _≤_, _<_}
 use native.Mathlib.Numerals.{add-one}
 use native.Mathlib.Omega.{arith}
 use mathlib.Core.Path.{_≡_, refl, sym, _∙_, ap, fun-ext}

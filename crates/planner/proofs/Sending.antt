@@ -1,7 +1,6 @@
 -- A script field under way: what is sent stands there, command after command, and the head makes a script field of it.
 -- The idea: a run of stores right behind another is one run of stores. Assumes nothing.
-use Prim.Native.Nat.{ℕ, suc, _+_, _*_, _≤_, _<_}
-use native.Mathlib.Nat.{add-zero, add-suc, suc-add}
+use Prim.Native.Nat.{ℕ, _+_, _*_, _≤_, _<_}
 use native.Mathlib.Numerals.{towards-suc}
 use native.Mathlib.Omega.{arith}
 use mathlib.Core.Path.{_≡_, refl, _∙_, ap}
@@ -15,6 +14,7 @@ use Rattle.deployment.specs.Values.{Script, codedBytes, scriptBytes}
 use Rattle.deployment.specs.File.{fieldBytes, script-tag}
 use Rattle.deployment.specs.FieldValues.{filled}
 use Rattle.deployment.proofs.Values.{length-script}
+use Rattle.deployment.proofs.Storing.{sets-sets}
 use Rattle.planner.specs.Sending.{scriptHead, records, Sent}
 use Rattle.planner.specs.Plans.{Made, scriptField, planOf, Placed}
 
@@ -22,11 +22,6 @@ use Rattle.planner.specs.Plans.{Made, scriptField, planOf, Placed}
 pub five-stores : (l : List ℕ) (i x y z u v : ℕ)
     → set (set (set (set (set l i x) (i + 1) y) (i + 2) z) (i + 3) u) (i + 4) v ≡ sets l i (x ∷ y ∷ z ∷ u ∷ v ∷ [])
 five-stores l i x y z u v = simp towards-suc
-
--- the second right behind the first
-sets-sets : (l : List ℕ) (i : ℕ) (u v : List ℕ) → sets (sets l i u) (i + length u) v ≡ sets l i (u ++ v)
-sets-sets l i [] v = rw add-zero
-sets-sets l i (b ∷ u) v = rw (add-suc, ← suc-add) (sets-sets (set l i b) (suc i) u v)
 
 -- Records.
 records-append : (u v : List Command) → records (u ++ v) ≡ records u ++ records v

@@ -13,6 +13,7 @@ use crate::insert_delete_move::plan_two;
 use crate::script::FIELD_BYTES;
 use deployment::Refusal;
 use deployment::Why;
+use deployment::store;
 
 // "On success the output fills the first bytes and the rest keep theirs"; 13 at the bytes needed.
 fn send(plan: Plan, field: &[u8], place: &mut [u8]) -> Planned
@@ -26,9 +27,7 @@ fn send(plan: Plan, field: &[u8], place: &mut [u8]) -> Planned
             at: bytes,
         });
     }
-    for k in 0..bytes {
-        place[k] = field[k];
-    }
+    store(place, 0, &field[0..bytes]);
     Planned::Done(plan)
 }
 

@@ -68,7 +68,7 @@ cut-between i l e =
 on-around : {i : ℕ} (l u : List ℕ) (x : ℕ) (v : List ℕ) → i ≡ suc (length u) → l ≡ u ++ (x ∷ v) → within i (length l) ≡ true
 on-around {i} l u x v at is = on-within i (length l) (omega arith) (omega (arith, ap length is, length-append u (x ∷ v)))
 
-rule-at : {i : ℕ} {l : List ℕ} (u : List ℕ) (x : ℕ) (v : List ℕ) → i ≡ suc (length u) → l ≡ u ++ (x ∷ v) → ruleAt i l ≡ x
+pub rule-at : {i : ℕ} {l : List ℕ} (u : List ℕ) (x : ℕ) (v : List ℕ) → i ≡ suc (length u) → l ≡ u ++ (x ∷ v) → ruleAt i l ≡ x
 unfolding ruleAt
 rule-at u x v at is = rw (at, is, sub-one (suc (length u))) (getD-append-seam u x v 0)
 

@@ -6,11 +6,28 @@ use mathlib.Core.Path.{_≡_, refl, sym, _∙_, ap}
 use mathlib.Core.Bool.{true, false}
 use mathlib.Core.Logic.{_⊎_, inl, inr, ⊎-elim, ⊎-map, _≢_}
 use mathlib.Core.List.{List, [], _∷_, List·Memᴰ·head, List·Memᴰ·tail, List·Memᴰ·cases-cons, List·Memᴰ·not-nil}
-use Rattle.policy.specs.Policy.{Matching, decideFrom, decide, decided}
+use Rattle.policy.specs.Policy.{Matching, decideFrom, decide, decided, sameAction}
 use Rattle.policy.specs.Properties.{In, Distinct, Within, Precedes, SupportedBy, Ordered, Full}
 use Rattle.policy.specs.Claims.{OrderedAndFullDecidesAsOne, OrderedKeepsTheDefault}
+use Rattle.policy.specs.declared.Action.{Action}
+use Rattle.policy.specs.declared.Action.the-variants.{Deny, Permit}
 use Rattle.policy.proofs.Tests.{byTest, never, not-first, not-second}
 use Rattle.policy.proofs.Order.{precedes-in-right, precedes-total}
+
+-- Equal actions.
+pub same-action-eq : (a b : Action) → sameAction a b ≡ true → a ≡ b
+unfolding sameAction
+same-action-eq Deny Deny e = refl
+same-action-eq Deny Permit e = never e refl
+same-action-eq Permit Deny e = never e refl
+same-action-eq Permit Permit e = refl
+
+pub eq-same-action : (a b : Action) → a ≡ b → sameAction a b ≡ true
+unfolding sameAction
+eq-same-action Deny Deny e = refl
+eq-same-action Deny Permit e = cc
+eq-same-action Permit Deny e = cc
+eq-same-action Permit Permit e = refl
 
 -- rule r is in the list and hits, and no rule before it does
 pub record FirstHit (m : Matching) (l : List ℕ) (r : ℕ) : Type 0 where

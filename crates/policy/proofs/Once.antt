@@ -5,7 +5,7 @@ use Prim.Native.Nat.{ℕ, suc, zero-le, suc-le-suc}
 use native.Mathlib.Nat.{not-suc-le-zero}
 use native.Mathlib.Omega.{arith}
 use mathlib.Core.Path.{_≡_, refl, sym, _∙_, ap}
-use mathlib.Core.Bool.{true, false}
+use mathlib.Core.Bool.{false}
 use mathlib.Core.Logic.{_⊎_, inl, inr, ⊎-elim, _≢_}
 use mathlib.Core.List.{List, [], _∷_}
 use borrow.Author.Tests.{eqb-true, eqb-false}
@@ -14,30 +14,13 @@ use Rattle.policy.specs.Policy.{Matching, decided, sameAction}
 use Rattle.policy.specs.Replay.{lists}
 use Rattle.policy.specs.Properties.{Makes}
 use Rattle.policy.specs.Claims.{changePoint, ChangesOnce}
-use Rattle.policy.specs.declared.Action.{Action}
-use Rattle.policy.specs.declared.Action.the-variants.{Deny, Permit}
 use Rattle.policy.specs.declared.Command.{Command}
 use Rattle.policy.proofs.Tests.{byTest, never, not-second}
 use Rattle.policy.proofs.Way.{Rivals, Forward, Sound, Steps, steps-first}
 use Rattle.policy.proofs.Commands.{makes-passes}
 use Rattle.policy.proofs.Replay.{after-none, after-cases}
 use Rattle.policy.proofs.Decisions.{FirstHit, Agrees, first-hit-decides, no-hit-decides, first-hit-precedes}
-use Rattle.policy.proofs.Decisions.{agrees-decides, agrees-with-one}
-
--- Equal actions.
-same-action-eq : (a b : Action) → sameAction a b ≡ true → a ≡ b
-unfolding sameAction
-same-action-eq Deny Deny e = refl
-same-action-eq Deny Permit e = never e refl
-same-action-eq Permit Deny e = never e refl
-same-action-eq Permit Permit e = refl
-
-eq-same-action : (a b : Action) → a ≡ b → sameAction a b ≡ true
-unfolding sameAction
-eq-same-action Deny Deny e = refl
-eq-same-action Deny Permit e = cc
-eq-same-action Permit Deny e = cc
-eq-same-action Permit Permit e = refl
+use Rattle.policy.proofs.Decisions.{same-action-eq, eq-same-action, agrees-decides, agrees-with-one}
 
 module _ (m : Matching) (initial target : List ℕ) where
   -- the rules by which the two policies decide, where they differ

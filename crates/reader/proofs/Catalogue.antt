@@ -1,12 +1,12 @@
 -- The rules of a field value, read one after another: the k-th is read after the first k, and where it is good these and it are the
 -- first k + 1. Assumes nothing.
 use Prim.Native.Nat.{ℕ, _+_, _*_, _/_, _≤_, _<_}
-use native.Mathlib.Nat.{add-zero, zero-add}
+use native.Mathlib.Nat.{add-zero}
 use native.Mathlib.Numerals.{add-one}
 use native.Mathlib.Omega.{arith}
 use mathlib.Core.Path.{_≡_, refl, sym, _∙_, ap}
 use mathlib.Core.List.{List, [], _∷_, _++_}
-use lib.ListN.{length, take, drop, getD, drop-of-length-le}
+use lib.ListN.{length, take, drop, drop-of-length-le}
 use lib.Seq.{take-suc, drop-cons}
 use borrow.Author.Tests.{eq-eqb}
 use Rattle.policy.specs.Rule.{Rule}
@@ -21,7 +21,6 @@ use Rattle.deployment.proofs.Bytes.{length-part, length-chunks}
 use Rattle.deployment.proofs.Records.{chunk-at, piece-fits, catalogue-length, rule-at}
 use Rattle.deployment.proofs.Tests.{rule-tested}
 use Rattle.reader.specs.Answers.{checking, ruleValue}
-use Rattle.reader.specs.declared.Checking.{Checking}
 use Rattle.reader.specs.declared.Checking.the-variants.{Good, Bad}
 
 not-good : {A : Type 0} {why : Why} → Bad why ≡ Good → A

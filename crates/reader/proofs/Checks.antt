@@ -9,8 +9,7 @@ use mathlib.Core.List.{List, [], _∷_}
 use mathlib.Core.Option.{Option, none, some}
 use lib.ListN.{length, take, drop}
 use borrow.Author.Tests.{eq-eqb}
-use Rattle.policy.specs.Policy.{most-rules}
-use Rattle.deployment.specs.Checked.{Checked, good, bad, _>>=_}
+use Rattle.deployment.specs.Checked.{good}
 use Rattle.deployment.specs.Bytes.{chunks, joined}
 use Rattle.deployment.specs.Values.{rule-bytes, numbersOf, numbersBytes, listFits}
 use Rattle.deployment.specs.Catalogue.{catalogueOf}
@@ -49,7 +48,7 @@ use Rattle.deployment.specs.Properties.{
 }
 use Rattle.deployment.proofs.Bytes.{length-part}
 use Rattle.deployment.proofs.Tests.{says-list, says-script}
-use Rattle.deployment.proofs.Values.{numbers-read}
+use Rattle.deployment.proofs.Values.{policy-numbers}
 use Rattle.deployment.proofs.Fields.{
   Stage,
   stage,
@@ -68,6 +67,7 @@ use Rattle.deployment.proofs.Fields.{
 use Rattle.reader.specs.Answers.{checking, ruleValue, valueAt}
 use Rattle.reader.specs.Steps.{progressOf, Begun}
 use Rattle.reader.specs.declared.file.Progress.{Progress}
+use Rattle.reader.proofs.Given.{checking-last}
 use Rattle.reader.proofs.Places.{initial-stands, target-stands, catalogue-first}
 use Rattle.reader.proofs.Heads.{same-count}
 
@@ -95,16 +95,7 @@ module _
   pub read-stands : CanStand f tag
   read-stands = rw (ap (λ (field : Field). field .tag) read-field) (read-whole .0 .0 .0 .1)
 
--- whether tests pass does not hang on what is made of the value
-checking-then : {A B : Type 0} (read : Checked A) (made : A → B) → checking (_>>=_ read (λ a. good (made a))) ≡ checking read
-unfolding checking
-checking-then (good a) made = refl
-checking-then (bad why) made = refl
-
--- numbers that a catalogue has, read back from their bytes
-numbers-back : (size : ℕ) (l : List ℕ) → size ≤ most-rules → Listed size l → numbersOf (numbersBytes l) ≡ l
-numbers-back size l few h = numbers-read l (λ n t. omega (arith, h .sound .inside n t))
-
+-- a list that is absent is empty, and numbers that a catalogue has are read back from their bytes
 no-numbers : numbersOf (numbersBytes []) ≡ []
 unfolding numbersOf numbersBytes joined chunks
 no-numbers = refl
@@ -115,7 +106,7 @@ initial-back f r = go (f .initial) (r .initial)
   where
     go : (o : Option (List ℕ)) → IfThere (Listed (length (f .catalogue))) o → numbersOf (numbersBytes (listed o)) ≡ listed o
     go none h = no-numbers
-    go (some l) h = numbers-back (length (f .catalogue)) l (r .catalogue .few) h
+    go (some l) h = policy-numbers (length (f .catalogue)) l (r .catalogue .few) (h .sound)
 
 target-back : (f : Fields) → Readable f → numbersOf (numbersBytes (listed (f .target))) ≡ listed (f .target)
 unfolding listed
@@ -124,7 +115,7 @@ target-back f r = go (f .target) (r .target)
     go : (o : Option (List ℕ)) → IfThere (λ policy. There (f .initial) × Listed (length (f .catalogue)) policy) o
         → numbersOf (numbersBytes (listed o)) ≡ listed o
     go none h = no-numbers
-    go (some l) h = numbers-back (length (f .catalogue)) l (r .catalogue .few) (h .1)
+    go (some l) h = policy-numbers (length (f .catalogue)) l (r .catalogue .few) (h .1 .sound)
 
 -- The tests of a value, by its tag.
 module _
@@ -144,7 +135,7 @@ module _
   unfolding ruleValue withRule
   checked-rule e =
       rw (with-rule f tag value e, same-catalogue, eq-eqb (length value) rule-bytes (rule-size e right))
-      (sym (checking-then (ruleRead (f .catalogue) value) _))
+      (checking-last (ruleRead (f .catalogue) value) _)
 
   list-fits : ¬ (tag ≡ rule-tag) → ¬ (tag ≡ script-tag) → listFits (length value) ≡ true
   list-fits n m = says-list (length value) .1 (list-size n m right)
@@ -159,8 +150,8 @@ module _
       let fits = list-fits (⊎-elim (λ e. omega arith) (λ e. omega arith) which) (⊎-elim (λ e. omega arith) (λ e. omega arith) which) in
       rw (few, fits)
       (⊎-elim
-      (λ e. rw (with-initial f tag value e) (sym (checking-then (policyRead (length (f .catalogue)) value) _)))
-      (λ e. rw (with-target f tag value e) (sym (checking-then (policyRead (length (f .catalogue)) value) _)))
+      (λ e. rw (with-initial f tag value e) (checking-last (policyRead (length (f .catalogue)) value) _))
+      (λ e. rw (with-target f tag value e) (checking-last (policyRead (length (f .catalogue)) value) _))
       which)
 
   same-initial : numbersOf (valueAt (progress .layout .initial) file) ≡ listed (f .initial)
@@ -184,8 +175,8 @@ module _
   unfolding keepValue withKeep
   checked-keep initial target i t e =
       rw (with-keep f tag value e, list-fits (omega arith) (omega arith), i, t, same-initial, same-target)
-      (checking-then (keepRead (listed (f .initial)) (listed (f .target)) value) _
-      ∙ sym (checking-then (keepRead (listed (f .initial)) (listed (f .target)) value) _))
+      (sym (checking-last (keepRead (listed (f .initial)) (listed (f .target)) value) _)
+      ∙ checking-last (keepRead (listed (f .initial)) (listed (f .target)) value) _)
 
   last-tag : ¬ (tag ≡ rule-tag) → ¬ (tag ≡ initial-tag) → ¬ (tag ≡ target-tag) → ¬ (tag ≡ keep-tag) → tag ≡ script-tag
   last-tag r i t k =
@@ -199,4 +190,4 @@ module _
   checked-script r i t k =
       let e = last-tag r i t k in
       rw (with-script f tag value e, says-script (length value) .1 (script-size e right))
-      (checking-then (scriptRead value) _ ∙ sym (checking-then (scriptRead value) _))
+      (sym (checking-last (scriptRead value) _) ∙ checking-last (scriptRead value) _)

@@ -1,24 +1,21 @@
 -- Any two answers of `read`, of `read_to_judge` and of `value` are equal; and what an answer of `read` says of the file. The idea: contents that were
 -- written are fields that were read to the end, so the laws of places hold of them. Assumes nothing.
-use Prim.Native.Nat.{ℕ, _*_, _<_}
-use native.Mathlib.Omega.{arith}
+use Prim.Native.Nat.{ℕ, _*_}
 use mathlib.Core.Path.{_≡_, refl, sym, _∙_, ap}
-use mathlib.Core.List.{List, [], _++_, map, append-nil, List·Memᴰ}
+use mathlib.Core.List.{List, [], _++_, map, append-nil}
 use mathlib.Core.Option.{Option, none, some}
 use lib.ListN.{length, take}
 use lib.Seq.{take-at}
 use denote.Ref.{now}
-use Rattle.policy.specs.Policy.{most-rules}
 use Rattle.policy.specs.Claims.{Keepable}
-use Rattle.policy.proofs.Order.{sublist-in}
 use Rattle.deployment.specs.Bytes.{joined, chunks}
 use Rattle.deployment.specs.Values.{Script, ruleBytes, numbersOf, numbersBytes, scriptOf, scriptBytes}
 use Rattle.deployment.specs.Catalogue.{recordCount, recordsOf, catalogueOf}
 use Rattle.deployment.specs.Contents.{Contents}
-use Rattle.deployment.specs.File.{Reading, accepted, refused, readFile, listed, fileOf, rule-tag, fieldBytes}
+use Rattle.deployment.specs.File.{Reading, accepted, readFile, readToJudge, listed, fileOf, rule-tag, fieldBytes}
 use Rattle.deployment.specs.Properties.{AreBytes, IfThere, Scripted, Valid, TurnedAway, fieldsBytes}
 use Rattle.deployment.specs.declared.Refusal.{Refusal}
-use Rattle.deployment.proofs.Values.{length-numbers, numbers-read, length-script, script-read}
+use Rattle.deployment.proofs.Values.{length-numbers, policy-numbers, keep-numbers, length-script, script-read}
 use Rattle.deployment.proofs.ReadBack.{rules-length, fieldsOf, file-fields, read-back}
 use Rattle.deployment.proofs.Reader.{written-again, refusals}
 use Rattle.reader.specs.Answers.{valueAt, spanFrom, spanIf, keepBytes, commandBytes, layoutOf, shown, fileRead}
@@ -36,6 +33,8 @@ use Rattle.reader.proofs.Places.{
   catalogue-front,
   catalogue-first,
 }
+use Rattle.reader.proofs.ShownReadings.{file-refused, shown-accepted}
+use Rattle.reader.proofs.ToJudge.{scripted}
 use Rattle.reader.proofs.file.read.Reads as read
 use Rattle.reader.proofs.file.read_to_judge.Reads as read-to-judge
 use Rattle.reader.proofs.file.value.Reads as value
@@ -58,15 +57,11 @@ places-of c = refl
 bytes-of : (c : Contents) → fieldsBytes (fieldsOf c) ++ [] ≡ fileOf c
 bytes-of c = append-nil (fieldsBytes (fieldsOf c)) ∙ sym (file-fields c)
 
--- a list whose numbers are below a catalogue's count, and a script, where their bytes stand
-a-list-stands : (file : List ℕ) (span : Span) (l : List ℕ) → ((n : ℕ) → List·Memᴰ n l → n < most-rules)
+-- a list that is read back from its bytes, and a script, where their bytes stand
+a-list-stands : (file : List ℕ) (span : Span) (l : List ℕ) → numbersOf (numbersBytes l) ≡ l
     → valueAt span file ≡ numbersBytes l → span .size ≡ length (numbersBytes l) → ListStands file span l
-a-list-stands file span l small bytes size =
-    record {
-      bytes = bytes;
-      numbers = ap numbersOf bytes ∙ numbers-read l (λ n t. omega (arith, small n t));
-      size = size ∙ length-numbers l;
-    }
+a-list-stands file span l back bytes size =
+    record { bytes = bytes; numbers = ap numbersOf bytes ∙ back; size = size ∙ length-numbers l }
 
 a-script-stands : (file : List ℕ) (span : Span) (s : Script) → Scripted s
     → valueAt span file ≡ scriptBytes s → span .size ≡ length (scriptBytes s) → ScriptStands file span s
@@ -112,7 +107,7 @@ module _ (c : Contents) (valid : Valid c) where
   keep-there (some k) e =
       let within : Keepable (c .initial) (c .target) (some k) = rw e at (valid .keep) in
       a-list-stands (fileOf c) ((layoutOf c) .keep) k
-      (λ n t. omega (arith, valid .target .sound .inside n (sublist-in (within .1) n t), valid .catalogue .few))
+      (keep-numbers (length (c .catalogue)) (c .target) k (valid .catalogue .few) (valid .target .sound) (within .1))
       (keep-bytes ∙ rw e) (rw e)
 
   script-there : (script : Option Script) → c .script ≡ script → IfThere (ScriptStands (fileOf c) ((layoutOf c) .script)) script
@@ -134,27 +129,44 @@ module _ (c : Contents) (valid : Valid c) where
         among = catalogue-among;
         initial =
             a-list-stands (fileOf c) ((layoutOf c) .initial) (c .initial)
-            (λ n t. omega (arith, valid .initial .sound .inside n t, valid .catalogue .few)) initial-bytes refl;
+            (policy-numbers (length (c .catalogue)) (c .initial) (valid .catalogue .few) (valid .initial .sound)) initial-bytes refl;
         target =
             a-list-stands (fileOf c) ((layoutOf c) .target) (c .target)
-            (λ n t. omega (arith, valid .target .sound .inside n t, valid .catalogue .few)) target-bytes refl;
+            (policy-numbers (length (c .catalogue)) (c .target) (valid .catalogue .few) (valid .target .sound)) target-bytes refl;
         has-keep = refl;
         keep = keep-there (c .keep) refl;
         has-script = refl;
         script = script-there (c .script) refl;
       }
 
+-- A reading accepts contents that stand in the file.
+pub record Holds (reading : Reading) (file : List ℕ) (layout : Layout) : Type 0 where
+  pub contents : Contents
+  pub is : reading ≡ accepted contents
+  pub stands : Stands file layout contents
+
+module _ (file : List ℕ) (layout : Layout) (bytes : AreBytes file) where
+  standing : (c : Contents) → layout ≡ layoutOf c → readFile file ≡ accepted c → Stands file layout c
+  standing c same is = let (valid, written) = written-again file c bytes is in rw (same, ← written) (contents-stand c valid)
+
+  pub file-holds : Accepted layout ≡ fileRead file → Holds (readFile file) file layout
+  unfolding fileRead
+  file-holds e =
+      let (c, same, is) = shown-accepted (readFile file) layout e in
+      record { contents = c; is = is; stands = standing c same is }
+
+  -- and where it is to be judged, with a script among them
+  pub holds-to-judge : Accepted layout ≡ shown (readToJudge file)
+      → (h : Holds (readToJudge file) file layout) × (s : Script) × (h .contents .script ≡ some s) × ScriptStands file (layout .script) s
+  holds-to-judge e =
+      let (c, same, is) = shown-accepted (readToJudge file) layout e in
+      let (whole, (s, has)) = scripted file c is in
+      let stands = standing c same whole in
+      (record { contents = c; is = is; stands = stands }, s, has, rw has at (stands .script))
+
 -- The claims, of the definitions.
 pub accepted-file : AcceptedFile
-unfolding fileRead shown
-accepted-file file layout b e = go (readFile file) refl e
-  where
-    go : (reading : Reading) → readFile file ≡ reading → shown reading ≡ Accepted layout → (c : Contents) × Stands file layout c
-    go (refused refusal) h e = absurd (let z : _≡_ {A = ℕ} 0 1 = cc in omega arith)
-    go (accepted c) h e =
-        let right = written-again file c b h in
-        let same : layoutOf c ≡ layout = cc in
-        (c, rw (← same, ← right .1) (contents-stand c (right .0)))
+accepted-file file layout b e = let held = file-holds file layout b (sym e) in (held .contents, held .stands)
 
 pub written-file : WrittenFile
 unfolding fileRead shown
@@ -163,13 +175,9 @@ written-file c valid = rw (read-back c valid .1)
 pub refused-file : RefusedFile
 unfolding fileRead shown
 refused-file file refusal b = (
-  λ e. refusals file (refusal .why) (refusal .at) b .0 (go (readFile file) refl e),
+  λ e. refusals file (refusal .why) (refusal .at) b .0 (file-refused file refusal (sym e)),
   λ h. rw (refusals file (refusal .why) (refusal .at) b .1 h),
 )
-  where
-    go : (reading : Reading) → readFile file ≡ reading → shown reading ≡ Refused refusal → readFile file ≡ refused refusal
-    go (accepted c) h e = absurd (let z : _≡_ {A = ℕ} 0 1 = cc in omega arith)
-    go (refused other) h e = let same : other ≡ refusal = cc in h ∙ ap refused same
 
 -- The claims, of `read`.
 pub accepted-file-is-written-again : (κ : _) (a : _) (layout : Layout) (e : _) → read.Post κ a (Accepted layout) e

@@ -3,21 +3,17 @@
 use Prim.Native.Nat.{ℕ, _+_, _*_, _/_, _%_, _≤_, min}
 use native.Mathlib.Nat.{min-eq-left}
 use native.Mathlib.Omega.{arith}
-use mathlib.Core.Path.{_≡_, refl, sym, _∙_, ap}
-use mathlib.Core.Bool.{Bool, true, false}
+use mathlib.Core.Path.{_≡_, refl, _∙_}
 use mathlib.Core.List.{List, [], _∷_, _++_}
-use mathlib.Core.Option.{Option, none, some}
 use borrow.Author.Tests.{leb-true}
-use lib.Dec.{eqb, leb, ltb}
+use lib.Dec.{eqb, leb}
 use lib.ListN.{length, length-append}
-use Rattle.policy.specs.Lists.{all, differ}
 use Rattle.policy.specs.Policy.{most-rules}
 use Rattle.policy.specs.Rule.{Rule}
-use Rattle.policy.proofs.Tests.{byTest}
-use Rattle.deployment.specs.Checked.{Checked, good, bad, _>>=_, _>>_, require}
+use Rattle.deployment.specs.Checked.{Checked, good, bad, _>>=_}
 use Rattle.deployment.specs.Bytes.{chunks}
-use Rattle.deployment.specs.Values.{Script, rule-bytes, numbersOf, listFits}
-use Rattle.deployment.specs.Contents.{Contents, ruleRead, policyRead}
+use Rattle.deployment.specs.Values.{rule-bytes, numbersOf, listFits}
+use Rattle.deployment.specs.Contents.{ruleRead}
 use Rattle.deployment.specs.FieldValues.{
   FieldValues,
   rulesRead,
@@ -27,19 +23,12 @@ use Rattle.deployment.specs.FieldValues.{
   scriptValue,
   valuesRead,
 }
-use Rattle.deployment.specs.Properties.{AreBytes, IfThere}
 use Rattle.deployment.specs.declared.Why.{Why}
 use Rattle.deployment.proofs.Bytes.{length-chunks}
 use Rattle.deployment.proofs.Tests.{tested, policy-tested}
-use Rattle.reader.specs.Answers.{checking, given}
+use Rattle.reader.specs.Answers.{checking}
 use Rattle.reader.specs.declared.Checking.{Checking}
 use Rattle.reader.specs.declared.Checking.the-variants.{Good, Bad}
-
--- Bytes that may be absent.
-pub given-bytes : (there : Bool) (value : List ℕ) → AreBytes value → IfThere AreBytes (given there value)
-unfolding given
-given-bytes true value b = b
-given-bytes false value b = tt
 
 -- What an answer says of the tests.
 bad-good {ℓ} : {A : Type 0} {B : Type ℓ} {why : Why} {a : A} → bad why ≡ good a → B
@@ -101,8 +90,8 @@ policy-passed size value e =
     tested Right (listFits (length value)) (λ odd. bad-good)
     (λ fits. policy-tested Right size value (λ outside. bad-good) (λ inside twice. bad-good) (λ sound passes. refl)) (found .1)
 
--- a last test decides for what is made of its value
-checking-last : {A B : Type 0} (read : Checked A) (next : A → B) → checking read ≡ checking (_>>=_ read (λ a. good (next a)))
+-- whether tests pass does not hang on what is made of the value
+pub checking-last : {A B : Type 0} (read : Checked A) (next : A → B) → checking read ≡ checking (_>>=_ read (λ a. good (next a)))
 unfolding checking
 checking-last (good a) next = refl
 checking-last (bad why) next = refl

@@ -4,11 +4,13 @@ pub mod Scripts
 pub mod Rules
 pub mod Catalogue
 pub mod Given
+pub mod ValuesLent
 pub mod Places
 pub mod Heads
 pub mod Checks
 pub mod OneMore
 pub mod Reading
+pub mod ShownReadings
 pub mod ToJudge
 pub mod Answers
 pub mod FileAnswers

@@ -4,21 +4,7 @@ use Prim.Native.Nat.{ℕ, _+_, _*_, _-_, _/_, _≤_}
 use native.Mathlib.Nat.{zero-add, suc-add}
 use native.Mathlib.Omega.{arith}
 use mathlib.Core.Path.{_≡_, refl, sym, _∙_, ap}
-use mathlib.Core.List.{
-  List,
-  [],
-  _∷_,
-  _++_,
-  map,
-  append-assoc,
-  append-nil,
-  List·Memᴰ,
-  List·Memᴰ·head,
-  List·Memᴰ·tail,
-  Memᴰ·of-map,
-  map-map,
-  map-append,
-}
+use mathlib.Core.List.{List, [], _∷_, _++_, map, append-assoc, append-nil, List·Memᴰ, List·Memᴰ·head, List·Memᴰ·tail, map-map, map-append}
 use mathlib.Core.Option.{Option, none, some}
 use lib.ListN.{length, take, drop, length-append, length-drop, length-map, drop-of-length-le}
 use lib.Seq.{take-all, take-nil, drop-length, take-at, drop-at, drop-append-add}
@@ -26,11 +12,11 @@ use Rattle.policy.specs.Rule.{Rule}
 use Rattle.deployment.specs.Bytes.{bytesOf, part, chunks, joined}
 use Rattle.deployment.specs.Values.{Script, ruleOf, ruleBytes, numbersBytes, scriptBytes}
 use Rattle.deployment.specs.Catalogue.{recordCount, recordsOf, catalogueOf}
-use Rattle.deployment.specs.File.{Fields, listed, fieldBytes, ifThere, rule-tag, initial-tag, target-tag, keep-tag, script-tag}
+use Rattle.deployment.specs.File.{Fields, listed, fieldBytes, ifThere, initial-tag, target-tag, keep-tag, script-tag}
 use Rattle.deployment.specs.Properties.{Recordable, fieldsBytes}
 use Rattle.deployment.proofs.Records.{part-between}
-use Rattle.deployment.proofs.Values.{map-back, length-rule, rule-read}
-use Rattle.deployment.proofs.ReadBack.{length-field, rules-length}
+use Rattle.deployment.proofs.Values.{map-back, rule-read}
+use Rattle.deployment.proofs.ReadBack.{length-field, rules-length, rule-fields-wide, ruleField}
 use Rattle.reader.specs.Answers.{valueAt, spanFrom, absent, spanIf, endOf, keepBytes, commandBytes}
 use Rattle.reader.specs.Steps.{layoutSoFar}
 use Rattle.reader.specs.declared.Span.{Span}
@@ -86,9 +72,6 @@ module _ (before : List ℕ) (tag : ℕ) where
   script-ends (some s) = omega (arith, length-append before (fieldBytes tag (scriptBytes s)), length-field tag (scriptBytes s))
 
 -- The pieces of fields, one after another.
-abbrev ruleField : Rule → List ℕ
-ruleField rule = fieldBytes rule-tag (ruleBytes rule)
-
 abbrev rulesPart : Fields → List ℕ
 rulesPart f = joined (map ruleField (f .catalogue))
 
@@ -178,16 +161,12 @@ pub catalogue-front : (c : List Rule) (rest : List ℕ) → ((rule : Rule) → L
 unfolding catalogueOf recordsOf recordCount
 catalogue-front c rest h =
     let front = joined (map ruleField c) in
-    let wide : (piece : List ℕ) → List·Memᴰ piece (map ruleField c) → length piece ≡ 30 =
-    λ piece t.
-    let at = Memᴰ·of-map ruleField c t in
-    rw (← at .2) (omega (arith, length-field rule-tag (ruleBytes (at .0)), length-rule (at .0))) in
     let counted : length (front ++ rest) / 30 ≡ length (map ruleField c) + length rest / 30 =
     omega (arith, length-append front rest, rules-length c, length-map c ruleField) in
     let back : map ruleOf (map (drop 3) (map ruleField c)) ≡ c =
     map-map ruleOf (drop 3) (map ruleField c)
     ∙ map-back ruleField (λ piece. ruleOf (drop 3 piece)) c (λ rule t. ap ruleOf (behind-head rule) ∙ rule-read rule (h rule t)) in
-    rw (counted, chunks-front 30 (map ruleField c) (length rest / 30) rest wide, map-append, map-append, back)
+    rw (counted, chunks-front 30 (map ruleField c) (length rest / 30) rest (rule-fields-wide c), map-append, map-append, back)
 
 pub catalogue-first : (f : Fields) (left : List ℕ) → ((rule : Rule) → List·Memᴰ rule (f .catalogue) → Recordable rule)
     → take (length (f .catalogue)) (catalogueOf 3 (fieldsBytes f ++ left)) ≡ f .catalogue

@@ -22,7 +22,8 @@ use Rattle.deployment.specs.Values.{rule-bytes, actionOf, ruleOf, rangeAt, risi
 use Rattle.deployment.specs.Catalogue.{recordCount, catalogueOf}
 use Rattle.deployment.specs.Properties.{AreBytes}
 use Rattle.deployment.proofs.Records.{elements, part-from, part-elements, number-one, recordAt, catalogue-length, rule-at}
-use Rattle.deployment.proofs.Values.{boundBytes, bounds-written, same-action-eq, same-action-refl, same-rule-eq, same-rule-refl}
+use Rattle.policy.proofs.Decisions.{same-action-eq, eq-same-action}
+use Rattle.deployment.proofs.Values.{boundBytes, bounds-written, same-rule-eq, same-rule-refl}
 
 -- 5: both bounds have size + 1 bytes
 pub rising-elements : (rule : List ℕ) (at size : ℕ) → at + 2 * suc size ≤ length rule
@@ -83,7 +84,7 @@ same-rule-bytes (x ∷ l) (y ∷ m) bytes-a bytes-b long-a long-b = agree there 
         let bounds : l ≡ m =
         sym (bounds-written (x ∷ l) bytes-a long-a) ∙ ap boundBytes equal ∙ bounds-written (y ∷ m) bytes-b long-b in
         let acts : actionOf x ≡ actionOf y = sym (rule-action x l) ∙ ap (λ (r : Rule). r .action) equal ∙ rule-action y m in
-        both-and (sym (same-action x y) ∙ rw acts (same-action-refl (actionOf y))) (rw bounds (same-refl m))
+        both-and (sym (same-action x y) ∙ rw acts (eq-same-action (actionOf y) (actionOf y) refl)) (rw bounds (same-refl m))
 
     back : (Bool·beq (eqb x 1) (eqb y 1) && same l m) ≡ true → sameRule (ruleOf (x ∷ l)) (ruleOf (y ∷ m)) ≡ true
     back t =

@@ -1,6 +1,6 @@
 -- Scripts: the commands one by one, each at its five bytes. That every one can be read is that each can, from the k-th on as from the
 -- first. Assumes nothing.
-use Prim.Native.Nat.{ℕ, _+_, _*_, _≤_, _<_}
+use Prim.Native.Nat.{ℕ, _+_, _≤_, _<_}
 use native.Mathlib.Nat.{mul-comm}
 use native.Mathlib.Numerals.{add-one}
 use native.Mathlib.Omega.{arith}
@@ -19,8 +19,7 @@ use Rattle.deployment.specs.Values.{commandFrom, codedOf, everyCommand, command
 use Rattle.deployment.specs.Commands.{commandCount, commandAt, decoded}
 use Rattle.deployment.specs.Contents.{scriptRead}
 use Rattle.deployment.specs.FieldValues.{scriptValue}
-use Rattle.deployment.specs.declared.Why.the-variants.{Length, Coding}
-use Rattle.deployment.specs.declared.Decoded.{Decoded}
+use Rattle.deployment.specs.declared.Why.the-variants.{Coding}
 use Rattle.deployment.specs.declared.Decoded.the-variants.{Is, Wrong}
 use Rattle.deployment.proofs.Bytes.{length-chunks}
 use Rattle.deployment.proofs.Values.{byOption}

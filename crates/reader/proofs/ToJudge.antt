@@ -1,5 +1,5 @@
 -- What is read of a file that is to be judged, from what is read of it: 12 where the layout has no script, the same where it has one. The
--- idea: contents have a script exactly when their layout says so. Assumes nothing.
+-- idea: contents have a script exactly when their layout says so. And what is accepted so has a script. Assumes nothing.
 use Prim.Native.Nat.{ℕ}
 use native.Mathlib.Omega.{arith}
 use mathlib.Core.Path.{_≡_, refl, sym, _∙_, ap}
@@ -13,9 +13,11 @@ use Rattle.deployment.specs.Contents.{Contents}
 use Rattle.deployment.specs.File.{Reading, accepted, refused, readFile, needsScript, readToJudge}
 use Rattle.deployment.specs.declared.Refusal.{Refusal}
 use Rattle.deployment.specs.declared.Why.the-variants.{NoScript}
+use Rattle.deployment.proofs.Values.{byOption}
 use Rattle.reader.specs.Answers.{there, layoutOf, shown, fileRead}
 use Rattle.reader.specs.declared.Layout.{Layout}
 use Rattle.reader.specs.declared.FileRead.the-variants.{Accepted, Refused}
+use Rattle.reader.proofs.ShownReadings.{file-refused, shown-accepted}
 
 -- a script that may be there
 asked : (size : ℕ) (c : Contents) (script : Option Script) → Reading
@@ -34,23 +36,26 @@ with-one size c (some s) e = refl
 
 module _ (file : List ℕ) where
   pub refused-too : (refusal : Refusal) → Refused refusal ≡ fileRead file → Refused refusal ≡ shown (readToJudge file)
-  unfolding fileRead shown readToJudge needsScript
-  refused-too refusal e = go (readFile file) e
+  unfolding shown readToJudge needsScript
+  refused-too refusal e = rw (file-refused file refusal e)
+
+  -- what is accepted for the judge has a script
+  pub scripted : (c : Contents) → readToJudge file ≡ accepted c → (readFile file ≡ accepted c) × ((s : Script) × (c .script ≡ some s))
+  unfolding readToJudge needsScript
+  scripted c e = go (readFile file) e
     where
-      go : (reading : Reading) → Refused refusal ≡ shown reading → Refused refusal ≡ shown (needsScript (length file) reading)
-      go (accepted c) e = absurd (let z : _≡_ {A = ℕ} 0 1 = cc in omega arith)
-      go (refused other) e = e
+      go : (reading : Reading) → needsScript (length file) reading ≡ accepted c → (reading ≡ accepted c) × ((s : Script) × (c .script ≡ some s))
+      go (refused refusal) e = absurd (let z : _≡_ {A = ℕ} 0 1 = cc in omega arith)
+      go (accepted d) e =
+          byOption (d .script)
+          (λ lacks. absurd (let z : _≡_ {A = ℕ} 0 1 = cc (rw lacks at e) in omega arith))
+          (λ s has. let same : d ≡ c = cc (rw has at e) in (ap accepted same, (s, rw same at has)))
 
   module _ (layout : Layout) (e : Accepted layout ≡ fileRead file) where
     -- the contents, whose script the layout speaks of
     contents : (c : Contents) × (layout ≡ layoutOf c) × (readToJudge file ≡ asked (length file) c (c .script))
-    unfolding fileRead shown readToJudge needsScript asked
-    contents = go (readFile file) e
-      where
-        go : (reading : Reading) → Accepted layout ≡ shown reading
-            → (c : Contents) × (layout ≡ layoutOf c) × (needsScript (length file) reading ≡ asked (length file) c (c .script))
-        go (refused other) e = absurd (let z : _≡_ {A = ℕ} 0 1 = cc in omega arith)
-        go (accepted c) e = (c, cc, refl)
+    unfolding fileRead readToJudge needsScript asked
+    contents = let (c, same, read) = shown-accepted (readFile file) layout e in (c, same, ap (needsScript (length file)) read)
 
     pub no-script : layout .«has_script» ≡ false → Refused (record { why = NoScript; at = length file }) ≡ shown (readToJudge file)
     unfolding shown layoutOf

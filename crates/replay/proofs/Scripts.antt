@@ -3,7 +3,7 @@
 use Prim.Native.Nat.{ℕ, zero, suc, _+_, _≤_, _<_}
 use native.Mathlib.Numerals.{add-one}
 use native.Mathlib.Omega.{arith}
-use mathlib.Core.Path.{_≡_, refl, sym, _∙_, ap}
+use mathlib.Core.Path.{_≡_, sym, _∙_, ap}
 use mathlib.Core.List.{List, [], _∷_}
 use mathlib.Core.Option.{some}
 use lib.ListN.{length, drop, getD, drop-of-length-le}
@@ -11,7 +11,7 @@ use Rattle.policy.specs.Command.{passed, failed, step}
 use Rattle.policy.specs.Replay.{Replayed, ended, broken, replayFrom}
 use Rattle.policy.specs.declared.Command.{Command}
 use Rattle.policy.specs.declared.Fault.{Fault}
-use Rattle.deployment.specs.Values.{Script, commandFrom, codedOf, everyCommand, commandChunks, scriptOf}
+use Rattle.deployment.specs.Values.{commandFrom, codedOf, everyCommand, commandChunks, scriptOf}
 use Rattle.deployment.specs.Commands.{commandCount, commandAt, decoded}
 use Rattle.deployment.specs.declared.Decoded.the-variants.{Is, Wrong}
 use Rattle.deployment.proofs.Values.{byOption, none-some, script-of}

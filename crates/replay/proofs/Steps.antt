@@ -1,18 +1,17 @@
 -- A step on a sound state is the step of document 01, and leaves a sound state. The idea: the place that the array gives is 0 exactly where the
 -- rule is absent, leads to the rule where it is there, and a list that lacks a rule of the catalogue has a free slot. Assumes nothing.
-use Prim.Native.Nat.{ℕ, suc, min, _-_, _≤_, _<_}
+use Prim.Native.Nat.{ℕ, suc, min, _-_, _<_}
 use native.Mathlib.Omega.{arith}
 use mathlib.Core.Path.{_≡_, refl, sym, _∙_, ap}
 use mathlib.Core.Bool.{Bool, true, false, not, _&&_}
 use mathlib.Core.Logic.{⊎-elim}
 use mathlib.Core.List.{List, [], _∷_, _++_, List·Memᴰ·cases-cons}
 use borrow.Author.Tests.{ltb-true, lt-ltb, le-leb, eq-eqb, ne-eqb}
-use lib.Dec.{eqb, leb, ltb}
-use lib.ListN.{length, drop, getD, set}
+use lib.Dec.{eqb, ltb}
+use lib.ListN.{length, drop, getD}
 use Rattle.policy.specs.Lists.{mem, without}
-use Rattle.policy.specs.Properties.{In}
 use Rattle.policy.specs.Policy.{most-rules}
-use Rattle.policy.specs.Command.{Outcome, passed, failed, needs, within, step, ruleAt, lifted, placed, moved}
+use Rattle.policy.specs.Command.{Outcome, passed, failed, needs, within, step, lifted, placed, moved}
 use Rattle.policy.specs.declared.Command.{Command}
 use Rattle.policy.specs.declared.Command.the-variants.{App, DelRule, Ins, DelPlace, Mov}
 use Rattle.policy.specs.declared.Fault.{Fault}

@@ -1,15 +1,15 @@
 -- The values that a replay starts from: an accepted policy is the list that its value is read as, of differing rules of the catalogue; an
 -- accepted script is readable. And what the replay answers, by how the tests of the two values end. Assumes nothing.
-use Prim.Native.Nat.{ℕ, min, _≤_}
+use Prim.Native.Nat.{ℕ, min}
 use native.Mathlib.Omega.{arith}
-use mathlib.Core.Path.{_≡_, refl, ap, ap₂}
+use mathlib.Core.Path.{_≡_, ap, ap₂}
 use mathlib.Core.List.{List}
-use mathlib.Core.Option.{Option, none, some}
+use mathlib.Core.Option.{Option, some}
 use lib.ListN.{length, take, replicate}
 use lib.Seq.{take-all}
 use Rattle.policy.specs.Claims.{Policy}
 use Rattle.policy.specs.Replay.{replay}
-use Rattle.deployment.specs.Checked.{Checked, good, bad}
+use Rattle.deployment.specs.Checked.{good}
 use Rattle.deployment.specs.Values.{Script, numbersOf, scriptOf, listFits, scriptFits}
 use Rattle.deployment.specs.Contents.{scriptRead}
 use Rattle.deployment.specs.FieldValues.{policyValue, scriptValue}
@@ -20,6 +20,7 @@ use Rattle.running.specs.Places.{renumbered}
 use Rattle.running.proofs.Says.{says-numbered}
 use Rattle.reader.specs.Answers.{checking}
 use Rattle.reader.specs.declared.Checking.the-variants.{Good, Bad}
+use Rattle.reader.proofs.Given.{passed, failed}
 use Rattle.replay.specs.Stepping.{Sound}
 use Rattle.replay.specs.Answers.{stopped, outcomeOf, commandsOf, replayed, Readable}
 use Rattle.replay.specs.declared.Ending.the-variants.{Turned}
@@ -51,49 +52,38 @@ script-read value =
     (script-tested (Each (λ script. scriptOf value ≡ some script) (λ why. Unit {0})) value (λ wrong. tt) (λ script read. read))
     (λ script read. ((script, read), ap commandsOf read))
 
--- what the tests of a value say of what is read
-checked-bad : {A : Type 0} (read : Checked A) (why : Why) → Bad why ≡ checking read → read ≡ bad why
-unfolding checking
-checked-bad (good a) why e = let clash : _≡_ {A = ℕ} 0 1 = cc in absurd (omega arith)
-checked-bad (bad other) why e = let same : other ≡ why = cc in ap bad same
-
-checked-good : {A : Type 0} (read : Checked A) → Good ≡ checking read → (a : A) × (read ≡ good a)
-unfolding checking
-checked-good (good a) e = (a, refl)
-checked-good (bad why) e = let clash : _≡_ {A = ℕ} 0 1 = cc in absurd (omega arith)
-
 -- The answer: turned away at the policy, at the script, or replayed.
 module _ (size : ℕ) (initial script : List ℕ) where
   pub turned-at-policy : (why : Why) → Bad why ≡ checking (policyValue (min size 1024) initial) → stopped (Turned why) ≡ replayed size initial script
   unfolding replayed
-  turned-at-policy why e = rw (checked-bad (policyValue (min size 1024) initial) why e, replayed)
+  turned-at-policy why e = rw (failed (policyValue (min size 1024) initial) why e, replayed)
 
   module _ (accepted : Good ≡ checking (policyValue (min size 1024) initial)) where
     pub turned-at-script : (why : Why) → Bad why ≡ checking (scriptValue (some script)) → stopped (Turned why) ≡ replayed size initial script
     unfolding replayed
     turned-at-script why e =
-        let (policy, is) = checked-good (policyValue (min size 1024) initial) accepted in
-        rw (is, replayed) (rw (checked-bad (scriptValue (some script)) why e))
+        let (policy, is) = passed (policyValue (min size 1024) initial) accepted in
+        rw (is, replayed) (rw (failed (scriptValue (some script)) why e))
 
     pub accepted-policy : Policy (min size 1024) (take 1024 (numbersOf initial))
     accepted-policy =
-        let (policy, is) = checked-good (policyValue (min size 1024) initial) accepted in
+        let (policy, is) = passed (policyValue (min size 1024) initial) accepted in
         let listed : IsList (min size 1024) initial policy = rw is at (policy-list (min size 1024) initial) in
         rw (listed .0) (listed .1)
 
     module _ (read : Good ≡ checking (scriptValue (some script))) where
       pub accepted-script : Readable script
       accepted-script =
-          let (commands, is) = checked-good (scriptValue (some script)) read in
+          let (commands, is) = passed (scriptValue (some script)) read in
           let known : IsRead script commands = rw is at (script-read script) in
           known .0
 
       pub runs : outcomeOf (replay (min size 1024) (take 1024 (numbersOf initial)) (commandsOf (scriptOf script))) ≡ replayed size initial script
       unfolding replayed
       runs =
-          let (policy, is) = checked-good (policyValue (min size 1024) initial) accepted in
+          let (policy, is) = passed (policyValue (min size 1024) initial) accepted in
           let listed : IsList (min size 1024) initial policy = rw is at (policy-list (min size 1024) initial) in
-          let (commands, of) = checked-good (scriptValue (some script)) read in
+          let (commands, of) = passed (scriptValue (some script)) read in
           let known : IsRead script commands = rw of at (script-read script) in
           rw (is, replayed) (rw of (ap outcomeOf (ap₂ (replay (min size 1024)) (listed .0) (known .1))))
 

@@ -3,8 +3,7 @@
 -- Before that, the place of a rule in a list cut around it. Assumes nothing.
 use Prim.Native.Nat.{ℕ, suc, _+_, _-_, _≤_, _<_}
 use native.Mathlib.Omega.{arith}
-use native.Mathlib.Numerals.{add-one, sub-one}
-use mathlib.Core.Path.{_≡_, refl, sym, _∙_, ap, ap₂, subst, subst₂}
+use mathlib.Core.Path.{_≡_, refl, sym, _∙_, ap, subst, subst₂}
 use mathlib.Core.Bool.{false, cond}
 use mathlib.Core.Logic.{⊎-elim}
 use mathlib.Core.List.{
@@ -24,12 +23,13 @@ use mathlib.Core.List.{
 use borrow.Author.Tests.{eqb-true, eqb-false, eq-eqb, ne-eqb}
 use lib.Dec.{eqb}
 use lib.ListN.{length, take, drop, getD, set, replicate, length-append, length-take, length-drop, length-set, length-replicate, getD-replicate, take-append-drop}
-use lib.Seq.{getD-set-same, getD-set-other, take-append-seam, drop-append-seam, take-append-le, take-take, drop-append-add, getD-append-seam, append-snoc, split-at}
+use lib.Seq.{getD-set-same, getD-set-other, drop-append-seam, take-append-le, take-take, append-snoc, split-at}
 use Rattle.policy.specs.Lists.{mem, before, after, without}
 use Rattle.policy.specs.Command.{ruleAt, lifted, placed, moved}
 use Rattle.policy.specs.Properties.{In, Distinct, Within}
 use Rattle.policy.proofs.Tests.{byTest, falsely}
 use Rattle.policy.proofs.Lists.{in-around, around-cases, mem-in, not-mem, before-after, not-before}
+use Rattle.policy.proofs.Commands.{rule-at, lifted-at}
 use Rattle.policy.proofs.Order.{distinct-right, distinct-apart, not-earlier, distinct-around, around-distinct}
 use Rattle.running.specs.Places.{further, placeIn, renumbered, Says}
 
@@ -66,15 +66,6 @@ absent-place r l e = place-absent r l (not-mem r l e)
 
 -- A rule's place leads back to it, and out of the list.
 
-rule-at : (x : ℕ) (u v : List ℕ) → ruleAt (suc (length u)) (u ++ (x ∷ v)) ≡ x
-unfolding ruleAt
-rule-at x u v = rw sub-one (getD-append-seam u x v 0)
-
-lifted-at : (x : ℕ) (u v : List ℕ) → lifted (suc (length u)) (u ++ (x ∷ v)) ≡ u ++ v
-unfolding lifted
-lifted-at x u v =
-    rw sub-one (ap₂ (λ (s t : List ℕ). s ++ t) (take-append-seam u (x ∷ v)) (rw add-one at (drop-append-add u (x ∷ v) 1)))
-
 module _ (r : ℕ) (l : List ℕ) (h : In r l) where
   pub place-within : (0 < placeIn r l) × (placeIn r l ≤ length l)
   place-within =
@@ -82,11 +73,11 @@ module _ (r : ℕ) (l : List ℕ) (h : In r l) where
       omega (arith, place-present r l h)
 
   pub place-rule : ruleAt (placeIn r l) l ≡ r
-  place-rule = ap₂ ruleAt (place-present r l h) (before-after r l h) ∙ rule-at r (before r l) (after r l)
+  place-rule = rule-at (before r l) r (after r l) (place-present r l h) (before-after r l h)
 
   pub place-lifted : lifted (placeIn r l) l ≡ without r l
   unfolding without
-  place-lifted = ap₂ lifted (place-present r l h) (before-after r l h) ∙ lifted-at r (before r l) (after r l)
+  place-lifted = lifted-at (before r l) r (after r l) (place-present r l h) (before-after r l h)
 
 -- The array.
 

@@ -1,7 +1,6 @@
 -- `write` itself, by its contract as the checker reads it: any two answers that it allows are equal, with every byte of the place;
 -- what it writes reads back, an accepted file is written again, and a place is kept where it turns away. Assumes nothing.
 use Prim.Native.Nat.{ℕ}
-use native.Mathlib.Omega.{arith}
 use mathlib.Core.Path.{_≡_, sym, _∙_, ap}
 use mathlib.Core.List.{List}
 use denote.Ref.{now}

@@ -1,6 +1,6 @@
 -- `command_at` meets its contract: the k-th command is read from the five bytes from 1 + 5k on. Assumes nothing.
 use Prim.Native.Nat.{_<_}
-use mathlib.Core.Path.{sym, _∙_, ap}
+use mathlib.Core.Path.{sym, ap}
 use native.Mathlib.Omega.{arith}
 use Rattle.deployment.specs.Commands.{commandCount, decoded}
 use Rattle.deployment.proofs.Records.{command-at, command-past}

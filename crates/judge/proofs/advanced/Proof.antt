@@ -8,8 +8,6 @@ use Rattle.judge.specs.Fronts.{stands}
 use Rattle.judge.proofs.Support.{passes-within}
 use Rattle.judge.proofs.advanced.Statement.{statement}
 use Rattle.judge.proofs.advanced.Tie as tie
-use Rattle.judge.proofs.advanced.Reads as reads
-use Rattle.judge.proofs.advanced.Lts as lts
 
 stands-at-requires : tie.Need-stands-at-requires
 stands-at-requires c κs = search needs

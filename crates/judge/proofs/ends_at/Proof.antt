@@ -11,8 +11,6 @@ use Rattle.running.proofs.Edits.{view-count, view-fits}
 use Rattle.deployment.specs.Values.{numbersOf}
 use Rattle.judge.proofs.ends_at.Statement.{statement}
 use Rattle.judge.proofs.ends_at.Tie as tie
-use Rattle.judge.proofs.ends_at.Reads as reads
-use Rattle.judge.proofs.ends_at.Lts as lts
 
 count-requires : tie.Need-count-requires
 count-requires c κs = search needs

@@ -2,12 +2,10 @@
 -- a and b never pass the front parts by the rules before it, so a policy that comes to the place's own rule supports it, and where both are
 -- stuck neither does. Assumes nothing.
 use Prim.Native.Nat.{suc, _+_, _≤_, _-_}
-use native.Mathlib.Numerals.{add-one}
 use native.Mathlib.Omega.{arith}
-use mathlib.Core.Path.{_≡_, refl, sym, _∙_, ap, ap₂}
-use mathlib.Core.Bool.{true, false, _||_}
+use mathlib.Core.Path.{_≡_, refl, sym, _∙_, ap₂}
+use mathlib.Core.Bool.{_||_}
 use mathlib.Core.Logic.{⊎-elim}
-use mathlib.Core.Option.{some}
 use lib.ListN.{length, drop, getD}
 use borrow.Author.Needs.{needs}
 use borrow.Author.Tests.{not-true, not-false, eqb-true, eqb-false}
@@ -19,8 +17,6 @@ use Rattle.judge.proofs.Support.{front-fits, ahead-inside, ahead-later,
 use Rattle.judge.proofs.Search.{failing-later, failing-here, failing-none, none-all}
 use Rattle.judge.proofs.first_unsupported.Statement.{statement}
 use Rattle.judge.proofs.first_unsupported.Tie as tie
-use Rattle.judge.proofs.first_unsupported.Reads as reads
-use Rattle.judge.proofs.first_unsupported.Lts as lts
 
 abbrev Inv-loop : tie.InvT-loop
 Inv-loop list places initial target k r a₀ b₀ a b =

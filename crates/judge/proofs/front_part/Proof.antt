@@ -11,8 +11,6 @@ use Rattle.judge.specs.Fronts.{stands, front}
 use Rattle.judge.proofs.Support.{front-fits, front-one, front-ends}
 use Rattle.judge.proofs.front_part.Statement.{statement}
 use Rattle.judge.proofs.front_part.Tie as tie
-use Rattle.judge.proofs.front_part.Reads as reads
-use Rattle.judge.proofs.front_part.Lts as lts
 
 abbrev Inv-loop : tie.InvT-loop
 Inv-loop policy from places k i₀ i = i ≤ front (stands places k) (numbersOf policy)

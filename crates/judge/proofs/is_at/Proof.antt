@@ -6,8 +6,6 @@ use Rattle.deployment.specs.Values.{numbersOf}
 use Rattle.judge.proofs.Support.{passes-past, passes-inside}
 use Rattle.judge.proofs.is_at.Statement.{statement}
 use Rattle.judge.proofs.is_at.Tie as tie
-use Rattle.judge.proofs.is_at.Reads as reads
-use Rattle.judge.proofs.is_at.Lts as lts
 
 listed-requires : tie.Need-listed-requires
 listed-requires c κs = search needs

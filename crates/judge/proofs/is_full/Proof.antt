@@ -1,7 +1,5 @@
 -- `is_full` asks of each policy whether its front part by the whole list is the whole policy. Assumes nothing.
-use native.Mathlib.Omega.{arith}
 use mathlib.Core.Path.{sym, _∙_, ap₂}
-use mathlib.Core.Bool.{_||_}
 use lib.Dec.{eqb}
 use lib.ListN.{length}
 use borrow.Author.Needs.{needs}
@@ -12,8 +10,6 @@ use Rattle.judge.specs.Fronts.{stands, front}
 use Rattle.judge.proofs.Support.{full-fronts}
 use Rattle.judge.proofs.is_full.Statement.{statement}
 use Rattle.judge.proofs.is_full.Tie as tie
-use Rattle.judge.proofs.is_full.Reads as reads
-use Rattle.judge.proofs.is_full.Lts as lts
 
 front-part-requires : tie.Need-front-part-requires
 front-part-requires c κs = search needs

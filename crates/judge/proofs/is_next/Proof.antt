@@ -1,14 +1,11 @@
 -- `is_next` is the two tests one after the other. Assumes nothing.
 use mathlib.Core.Path.{sym, _∙_}
-use mathlib.Core.Bool.{_||_}
 use borrow.Author.Needs.{needs}
 use Rattle.deployment.specs.Values.{numbersOf}
 use Rattle.policy.proofs.Tests.{or-left}
 use Rattle.judge.specs.Fronts.{isAt}
 use Rattle.judge.proofs.is_next.Statement.{statement}
 use Rattle.judge.proofs.is_next.Tie as tie
-use Rattle.judge.proofs.is_next.Reads as reads
-use Rattle.judge.proofs.is_next.Lts as lts
 
 is-at-requires : tie.Need-is-at-requires
 is-at-requires c κs = search needs

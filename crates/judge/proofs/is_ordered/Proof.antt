@@ -3,7 +3,7 @@
 use Prim.Native.Nat.{_≤_, _-_}
 use native.Mathlib.Omega.{arith}
 use mathlib.Core.Path.{_≡_, refl, sym, _∙_, ap₂}
-use mathlib.Core.Bool.{true, _||_}
+use mathlib.Core.Bool.{_||_}
 use lib.ListN.{length, drop, getD}
 use borrow.Author.Needs.{needs}
 use borrow.Author.Tests.{not-true, not-false}
@@ -15,8 +15,6 @@ use Rattle.judge.proofs.Support.{front-start, front-grows, supported-fr
 use Rattle.judge.proofs.Search.{all-one, all-not, all-none}
 use Rattle.judge.proofs.is_ordered.Statement.{statement}
 use Rattle.judge.proofs.is_ordered.Tie as tie
-use Rattle.judge.proofs.is_ordered.Reads as reads
-use Rattle.judge.proofs.is_ordered.Lts as lts
 
 abbrev Inv-loop : tie.InvT-loop
 Inv-loop list places initial target a₀ b₀ k₀ a b k =

@@ -5,7 +5,8 @@ use mathlib.Core.Path.{sym, _∙_}
 use borrow.Author.Needs.{needs}
 use Rattle.deployment.specs.File.{readToJudge}
 use Rattle.deployment.proofs.Bytes.{elements-are-bytes}
-use Rattle.judge.proofs.ValuesRead.{Held, asked, said, file-turned, file-held}
+use Rattle.reader.proofs.ShownReadings.{shown-refused}
+use Rattle.judge.proofs.ValuesRead.{Held, asked, said, turned, file-held}
 use Rattle.judge.proofs.judge_file.Statement.{statement}
 use Rattle.judge.proofs.judge_file.Tie as tie
 
@@ -49,7 +50,8 @@ verdict-of-requires c κs = asked _ _ _ _ _ (held c)
 returns : tie.Need-returns
 returns c =
     let read = c .before .before .before in
-    file-turned (read .before .before .args .file .now) _ (sym (c .before .found .given .1) ∙ read .read-to-judge .ensures)
+    turned (readToJudge (read .before .before .args .file .now)) _
+    (shown-refused _ _ (sym (c .before .found .given .1) ∙ read .read-to-judge .ensures))
 
 returns-2 : tie.Need-returns-2
 returns-2 c = said _ _ _ _ _ (held (c .before)) _ (c .verdict-of .ensures)

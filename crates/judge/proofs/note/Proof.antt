@@ -1,13 +1,12 @@
 -- `note` follows the definition: an unordered list stays; else the list's first unsupported place, else whether it is full. Assumes nothing.
 use Prim.Native.Nat.{ℕ}
 use native.Mathlib.Omega.{arith}
-use mathlib.Core.Path.{_≡_, refl, sym, _∙_}
+use mathlib.Core.Path.{_≡_, refl, _∙_}
 use mathlib.Core.Logic.{⊎-elim}
 use mathlib.Core.List.{List, [], _∷_}
 use types.Run.{OneOf}
 use denote.Enum.Declared.{tagOf}
 use borrow.Author.Needs.{needs}
-use borrow.Author.Tests.{not-true, not-false}
 use Rattle.policy.proofs.Verdict.{the-type}
 use Rattle.policy.specs.declared.Verdict.{Verdict}
 use Rattle.policy.specs.declared.Verdict.the-variants.{Broken, Elsewhere, Unordered, NotFull, Safe}
@@ -17,8 +16,6 @@ use Rattle.judge.specs.SoFar.{lookedAt, noted}
 use Rattle.judge.proofs.Verdicts.{looked-unordered, looked-lacking, looked-full}
 use Rattle.judge.proofs.note.Statement.{statement}
 use Rattle.judge.proofs.note.Tie as tie
-use Rattle.judge.proofs.note.Reads as reads
-use Rattle.judge.proofs.note.Lts as lts
 
 -- the other verdicts
 looks : (initial target : List ℕ) (v : Verdict) (at : ℕ) (l : List ℕ) → OneOf (0 ∷ 1 ∷ 3 ∷ 4 ∷ []) (tagOf the-type v)

@@ -1,5 +1,4 @@
 -- `note_state` hands the shown part of the list's array, and the side array. Assumes nothing.
-use Prim.Native.Nat.{_≤_}
 use native.Mathlib.Omega.{arith}
 use mathlib.Core.Path.{_≡_, sym, _∙_, ap}
 use lib.ListN.{length, take}
@@ -8,11 +7,8 @@ use Rattle.running.specs.Running.{view}
 use Rattle.running.proofs.Edits.{view-count, view-fits}
 use Rattle.deployment.specs.Values.{numbersOf}
 use Rattle.judge.specs.SoFar.{noted}
-use Rattle.judge.specs.Fronts.{Judging}
 use Rattle.judge.proofs.note_state.Statement.{statement}
 use Rattle.judge.proofs.note_state.Tie as tie
-use Rattle.judge.proofs.note_state.Reads as reads
-use Rattle.judge.proofs.note_state.Lts as lts
 
 count-requires : tie.Need-count-requires
 count-requires c κs = search needs

@@ -9,8 +9,6 @@ use Rattle.judge.specs.Fronts.{stands}
 use Rattle.judge.proofs.Support.{passes-past, stands-nowhere, stands-somewhere}
 use Rattle.judge.proofs.stands_at.Statement.{statement}
 use Rattle.judge.proofs.stands_at.Tie as tie
-use Rattle.judge.proofs.stands_at.Reads as reads
-use Rattle.judge.proofs.stands_at.Lts as lts
 
 listed-requires : tie.Need-listed-requires
 listed-requires c κs = search needs

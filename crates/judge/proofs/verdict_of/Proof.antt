@@ -21,8 +21,6 @@ use Rattle.replay.proofs.Scripts.{never-wrong}
 use Rattle.judge.proofs.Verdicts.{rest, verdict-rest, passes-on, breaks-off, comes-to, judging, starts}
 use Rattle.judge.proofs.verdict_of.Statement.{statement}
 use Rattle.judge.proofs.verdict_of.Tie as tie
-use Rattle.judge.proofs.verdict_of.Reads as reads
-use Rattle.judge.proofs.verdict_of.Lts as lts
 
 abbrev Inv-loop : tie.InvT-loop
 Inv-loop size initial target script count state₀ found₀ k₀ state found k =

@@ -10,7 +10,8 @@ use Rattle.deployment.proofs.Bytes.{elements-are-bytes}
 use Rattle.reader.specs.Answers.{valueAt}
 use Rattle.reader.specs.declared.Layout.{Layout}
 use Rattle.planner.specs.Plans.{madeOne}
-use Rattle.planner.proofs.GivenLists.{Accepts, asked, one-for-contents, turned-away, file-refused, file-accepted}
+use Rattle.reader.proofs.ShownReadings.{file-refused}
+use Rattle.planner.proofs.GivenLists.{Accepts, asked, one-for-contents, turned-away, file-accepted}
 use Rattle.planner.proofs.plan_one_file.Statement.{statement}
 use Rattle.planner.proofs.plan_one_file.Tie as tie
 

@@ -9,7 +9,8 @@ use Rattle.deployment.specs.File.{readFile}
 use Rattle.deployment.proofs.Bytes.{elements-are-bytes}
 use Rattle.reader.specs.declared.Layout.{Layout}
 use Rattle.planner.specs.Plans.{madeTwo}
-use Rattle.planner.proofs.GivenLists.{Accepts, asked, two-for-contents, turned-away, file-refused, file-accepted}
+use Rattle.reader.proofs.ShownReadings.{file-refused}
+use Rattle.planner.proofs.GivenLists.{Accepts, asked, two-for-contents, turned-away, file-accepted}
 use Rattle.planner.proofs.plan_two_file.Statement.{statement}
 use Rattle.planner.proofs.plan_two_file.Tie as tie
 

@@ -6,7 +6,8 @@ use borrow.Author.Needs.{needs}
 use Rattle.deployment.specs.FieldValues.{readValues}
 use Rattle.deployment.proofs.Bytes.{elements-are-bytes}
 use Rattle.planner.specs.Plans.{madeTwo}
-use Rattle.planner.proofs.GivenLists.{Accepts, asked, two-for-contents, turned-away, Lent, values, values-refused, values-accepted}
+use Rattle.reader.proofs.ValuesLent.{Lent, values, values-refused, values-accepted}
+use Rattle.planner.proofs.GivenLists.{Accepts, asked, two-for-contents, turned-away, values-given}
 use Rattle.planner.proofs.plan_two_values.Statement.{statement}
 use Rattle.planner.proofs.plan_two_values.Tie as tie
 
@@ -36,13 +37,14 @@ passed c =
     let target-known = keep-known .before in
     let initial-known = target-known .before in
     let rules-known = initial-known .before in
-    values-accepted (lent at)
+    values-given
+    (values-accepted (lent at)
     (elements-are-bytes _ (λ i. omega (arith, rules-known .shared-slice-known .given i)))
     (elements-are-bytes _ (λ i. omega (arith, initial-known .shared-slice-known2 .given i)))
     (elements-are-bytes _ (λ i. omega (arith, target-known .shared-slice-known3 .given i)))
     (elements-are-bytes _ (λ i. omega (arith, keep-known .shared-slice-known4 .given i)))
     (elements-are-bytes _ (λ i. omega (arith, script-known .shared-slice-known5 .given i)))
-    (sym (c .enum-told .given .1) ∙ at .values-checked .ensures)
+    (sym (c .enum-told .given .1) ∙ at .values-checked .ensures))
 
 values-checked-requires : tie.Need-values-checked-requires
 values-checked-requires c κs = search needs

@@ -11,7 +11,7 @@ use Rattle.deployment.specs.Commands.{commandCount, commandAt, decoded}
 use Rattle.deployment.specs.declared.Decoded.the-variants.{Is}
 use Rattle.running.specs.Running.{view}
 use Rattle.replay.specs.Stepping.{Sound}
-use Rattle.replay.specs.Answers.{shownBy, stopped, outcomeOf, commandsOf}
+use Rattle.replay.specs.Answers.{shownBy, outcomeOf, commandsOf}
 use Rattle.replay.proofs.Steps.{step-failed, step-passed, step-sound}
 use Rattle.replay.proofs.Scripts.{never-wrong, run-on, run-breaks, run-ends}
 use Rattle.replay.proofs.run.Statement.{statement}

@@ -8,7 +8,8 @@ use Rattle.deployment.proofs.Bytes.{elements-are-bytes}
 use Rattle.deployment.proofs.ReadBack.{length-field}
 use Rattle.deployment.proofs.Storing.{stored-more, stored-room}
 use Rattle.writer.proofs.Pieces.{length-if, length-all-rules}
-use Rattle.writer.proofs.Files.{Lent, Passed, size, values-passed, turned-away, no-room, all-put}
+use Rattle.reader.proofs.ValuesLent.{Lent, values-accepted}
+use Rattle.writer.proofs.Files.{Passed, size, values-passed, turned-away, no-room, all-put}
 use borrow.Author.Needs.{needs}
 use Rattle.writer.proofs.write.Statement.{statement}
 use Rattle.writer.proofs.write.Tie as tie
@@ -43,12 +44,13 @@ passed c =
     let initial-known = target-known .before in
     let rules-known = initial-known .before in
     values-passed (lent at)
+    (values-accepted (lent at)
     (elements-are-bytes _ (λ i. omega (arith, rules-known .shared-slice-known .given i)))
     (elements-are-bytes _ (λ i. omega (arith, initial-known .shared-slice-known2 .given i)))
     (elements-are-bytes _ (λ i. omega (arith, target-known .shared-slice-known3 .given i)))
     (elements-are-bytes _ (λ i. omega (arith, keep-known .shared-slice-known4 .given i)))
     (elements-are-bytes _ (λ i. omega (arith, script-known .shared-slice-known5 .given i)))
-    (sym (c .enum-told .given .1) ∙ at .values-checked .ensures)
+    (sym (c .enum-told .given .1) ∙ at .values-checked .ensures))
 
 -- Behind each field that is put, and before all of them.
 abbrev at-rules : tie.After-put-field → tie.After-put-rules

@@ -6,9 +6,11 @@ use mathlib.Core.Path.{_≡_, refl, sym, _∙_}
 use mathlib.Core.Bool.{cond}
 use mathlib.Core.Logic.{⊎-elim}
 use mathlib.Core.List.{List}
+use Rattle.deployment.specs.File.{readFile}
 use Rattle.deployment.proofs.Bytes.{elements-are-bytes}
 use Rattle.reader.specs.declared.Layout.{Layout}
-use Rattle.entries.proofs.Decisions.{Read, read-contents, turned-file, asked-target, asked-initial, few-rules, decided-file}
+use Rattle.reader.proofs.FileAnswers.{Holds, file-holds}
+use Rattle.entries.proofs.Decisions.{turned-file, asked-target, asked-initial, few-rules, decided-file}
 use borrow.Author.Needs.{needs}
 use Rattle.entries.proofs.files.decide.Statement.{statement}
 use Rattle.entries.proofs.files.decide.Tie as tie
@@ -20,10 +22,10 @@ layout c = c .before .found2 .given .0 .0
 abbrev file : tie.After-known-told2 → List ℕ
 file c = c .before .before .before .before .before .args .file .now
 
-stands : (c : tie.After-known-told2) → Read (file c) (layout c)
+stands : (c : tie.After-known-told2) → Holds (readFile (file c)) (file c) (layout c)
 stands c =
     let read = c .before .before .before in
-    read-contents (file c) (layout c) (elements-are-bytes (file c) (λ i. omega (arith, read .before .shared-slice-known .given i)))
+    file-holds (file c) (layout c) (elements-are-bytes (file c) (λ i. omega (arith, read .before .shared-slice-known .given i)))
     (sym (c .before .found2 .given .1) ∙ read .read .ensures)
 
 -- the policy that is asked for

@@ -46,8 +46,9 @@ returns-2 c =
     let read = found .before .before in
     let a = start read .args in
     let file = a .file .now in
-    replayed-file file (found .found2 .given .0 .0) (sym (found .found2 .given .1) ∙ read .read-to-judge .ensures)
-    (elements-are-bytes file (λ i. omega (arith, read .before .before .shared-slice-known .given i))) (a .place .now) _
+    replayed-file file (found .found2 .given .0 .0)
+    (elements-are-bytes file (λ i. omega (arith, read .before .before .shared-slice-known .given i)))
+    (sym (found .found2 .given .1) ∙ read .read-to-judge .ensures) (a .place .now) _
     (first .value .ensures) (second .value2 .ensures) (ran .replay-into .ensures)
 
 pub replay-spec : {M : Type 1} → statement M

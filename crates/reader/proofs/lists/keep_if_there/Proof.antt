@@ -1,5 +1,4 @@
 -- `keep_if_there` meets its contract: a keep list that is there is tested, and an absent one passes. Assumes nothing.
-use mathlib.Core.Path.{refl}
 use borrow.Author.Needs.{needs}
 use Rattle.deployment.specs.FieldValues.{keepValue}
 use Rattle.reader.specs.Answers.{checking, given}

@@ -1,5 +1,4 @@
 -- `script_if_there` meets its contract: a script that is there is tested, and an absent one passes. Assumes nothing.
-use mathlib.Core.Path.{refl}
 use borrow.Author.Needs.{needs}
 use Rattle.deployment.specs.FieldValues.{scriptValue}
 use Rattle.reader.specs.Answers.{checking, given}

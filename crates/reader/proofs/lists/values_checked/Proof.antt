@@ -1,6 +1,6 @@
 -- `values_checked` meets its contract: each value is tested behind those that passed, and the first that is turned away decides.
 -- Assumes nothing.
-use mathlib.Core.Path.{_≡_, sym, _∙_}
+use mathlib.Core.Path.{sym, _∙_}
 use borrow.Author.Needs.{needs}
 use Rattle.deployment.specs.FieldValues.{FieldValues}
 use Rattle.reader.specs.Answers.{valuesGiven}

@@ -1,7 +1,7 @@
 -- `list_of` meets its contract: the first k slots hold the first k numbers. Assumes nothing.
 use Prim.Native.Nat.{_≤_, _-_}
 use native.Mathlib.Omega.{arith}
-use mathlib.Core.Path.{_≡_, refl, sym, _∙_, ap}
+use mathlib.Core.Path.{_≡_, refl, _∙_, ap}
 use mathlib.Core.Logic.{⊎-elim}
 use lib.ListN.{length, take, length-set}
 use borrow.Author.Needs.{needs}

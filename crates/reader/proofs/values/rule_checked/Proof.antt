@@ -2,13 +2,10 @@
 -- the first `count`, or all where there are fewer. Assumes nothing.
 use Prim.Native.Nat.{_≤_}
 use native.Mathlib.Omega.{arith}
-use mathlib.Core.Path.{_≡_, refl, sym, _∙_, ap}
-use mathlib.Core.Bool.{Bool}
-use mathlib.Core.List.{List}
+use mathlib.Core.Path.{_≡_, sym, _∙_, ap}
 use mathlib.Core.Logic.{⊎-elim}
-use lib.ListN.{length, take}
+use lib.ListN.{take}
 use borrow.Author.Tests.{eq-eqb, ne-eqb}
-use Rattle.policy.specs.Rule.{Rule}
 use Rattle.policy.proofs.Tests.{fails, passes}
 use Rattle.deployment.specs.Values.{ruleOf, known}
 use Rattle.deployment.specs.Catalogue.{recordCount, catalogueOf}

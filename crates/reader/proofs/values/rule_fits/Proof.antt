@@ -1,5 +1,5 @@
 -- `rule_fits` meets its contract: its tests are those of the definition, one after another. Assumes nothing.
-use mathlib.Core.Path.{_≡_, sym, _∙_}
+use mathlib.Core.Path.{_≡_, _∙_}
 use mathlib.Core.Bool.{_&&_}
 use mathlib.Core.Logic.{⊎-elim}
 use lib.Dec.{leb}

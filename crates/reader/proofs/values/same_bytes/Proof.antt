@@ -4,7 +4,6 @@ use Prim.Native.Nat.{_≤_, _-_}
 use native.Mathlib.Omega.{arith}
 use mathlib.Core.Path.{_≡_, refl, sym, _∙_}
 use lib.ListN.{length, drop}
-use borrow.Author.Needs.{needs}
 use Rattle.policy.specs.Lists.{same}
 use Rattle.reader.proofs.SideBySide.{same-lengths, same-further, same-not, same-ends}
 use Rattle.reader.proofs.values.same_bytes.Statement.{statement}

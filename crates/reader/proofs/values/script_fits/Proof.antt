@@ -1,7 +1,7 @@
 -- `script_fits` meets its contract: its tests are those of the definition. Where the first two meet, they are the first two of the
 -- definition. Assumes nothing.
 use Prim.Native.Nat.{_-_, _%_}
-use mathlib.Core.Path.{_≡_, sym, _∙_}
+use mathlib.Core.Path.{_≡_, _∙_}
 use mathlib.Core.Bool.{_&&_}
 use mathlib.Core.Logic.{⊎-elim}
 use lib.Dec.{eqb, leb}

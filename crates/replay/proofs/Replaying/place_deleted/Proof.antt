@@ -1,7 +1,7 @@
 -- `place_deleted` leaves what the definition says: the edit, with the rule at the place cleared, settled from there on. Assumes nothing.
 use Prim.Native.Nat.{ℕ}
 use lib.ListN.{set}
-use mathlib.Core.Path.{refl, _∙_, ap}
+use mathlib.Core.Path.{_∙_, ap}
 use Rattle.replay.specs.Stepping.{stepLeft, stepShown, cleared, changedFrom}
 use Rattle.replay.proofs.Settled.{settles}
 use borrow.Author.Needs.{needs}

@@ -1,6 +1,6 @@
 -- `rule_deleted` leaves what the definition says: the edit at the place that the array gives, settled from there on. Assumes nothing.
 use Prim.Native.Nat.{ℕ, _-_}
-use mathlib.Core.Path.{refl, _∙_, ap}
+use mathlib.Core.Path.{_∙_, ap}
 use Rattle.running.specs.Running.{view, ruleDeleted}
 use Rattle.replay.specs.Stepping.{stepLeft, stepShown, cleared, changedFrom}
 use Rattle.replay.proofs.Settled.{settles}
