@@ -1,7 +1,7 @@
 /* How much stack each function touches: every call runs on a stack of its own, painted before it; the deepest byte that lost its paint is the
  * mark. The inputs are the largest that are accepted: 1,024 rules, policies of 512 rules that have none in common, or the same in reverse, or
- * equal with a keep list of 512, and scripts of 2,048 commands that run through. Prints the mark in bytes for each function, and fails where one is above what
- * the header says. */
+ * equal with a keep list of 512, and scripts of 2,048 commands that run through. Prints the mark in bytes for each function, and fails where
+ * one is above what the header says. */
 #include <stdio.h>
 #include <string.h>
 
