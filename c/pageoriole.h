@@ -19,7 +19,9 @@
  *
  * Places. What is written fills the first bytes of `place`; the others keep theirs. When a call is turned away or breaks off, all do.
  *
- * Stack. STACK_LINE
+ * Stack. A call touches at most PAGEORIOLE_STACK bytes, and pageoriole_plan_text at most PAGEORIOLE_STACK_TEXT. This is measured and not
+ * proved: c/stack.c runs every function on the largest inputs and fails above these. It finds 29,336 bytes (pageoriole_plan_two_file), and
+ * 34,728 for pageoriole_plan_text.
  */
 #ifndef PAGEORIOLE_H
 #define PAGEORIOLE_H
@@ -71,7 +73,9 @@ enum pageoriole_limit {
     PAGEORIOLE_FILE = 44045,     /* bytes: the longest file that is accepted, so the longest that is written */
     PAGEORIOLE_PLAN = 5124,      /* bytes: the longest script field that a planner writes */
     PAGEORIOLE_LIST = 2048,      /* bytes: the longest list that a replay writes */
-    PAGEORIOLE_TEXT = 65536      /* bytes: no text is longer */
+    PAGEORIOLE_TEXT = 65536,     /* bytes: no text is longer */
+    PAGEORIOLE_STACK = 32768,    /* bytes of stack, for every function but one */
+    PAGEORIOLE_STACK_TEXT = 36864 /* bytes of stack, for pageoriole_plan_text */
 };
 
 /* The values of the fields of a deployment file.
