@@ -3,7 +3,6 @@
 ghost use mathlib.Core.Path.{_≡_};
 ghost use mathlib.Core.List.{[], _∷_};
 ghost use lib.Seq.{sets};
-ghost use Rattle.policy.specs.Command.{faultNumber};
 ghost use Rattle.deployment.specs.Values.{actionNumber};
 ghost use Rattle.pageoriole.specs.Answers.{
   told,
@@ -29,7 +28,6 @@ use judge::Judged;
 use planner::Planned;
 use policy::Action;
 use policy::Decision;
-use policy::Fault;
 use policy::Verdict;
 use reader::Checking;
 use reader::FileRead;
@@ -172,24 +170,12 @@ pub fn decided_told(decided: Decided) -> Words
     }
 }
 
-// The table's number of a command that fails.
-fn fault_number(fault: Fault) -> u32
-    ensures { λ n. ⌜ n ≡ faultNumber fault ⌝ }
-{
-    match fault {
-        Fault::Present => 20,
-        Fault::Absent => 21,
-        Fault::Place => 22,
-        Fault::Number => 23,
-    }
-}
-
 pub fn ran_told(ran: Ran) -> Words
     ensures { λ w. ⌜ shownWords w ≡ ranTold ran ⌝ }
 {
     match ran {
         Ran::Ended(n) => one(DONE, n as u64),
-        Ran::Broken(fault, step) => one(fault_number(fault), step as u64),
+        Ran::Broken(fault, step) => one(fault.number() as u32, step as u64),
         Ran::Turned(refusal) => turned(refusal),
     }
 }
@@ -213,11 +199,11 @@ fn verdict_told(verdict: Verdict) -> Words
     ensures { λ w. ⌜ shownWords w ≡ verdictTold verdict ⌝ }
 {
     match verdict {
-        Verdict::Broken(fault, step) => one(fault_number(fault), step as u64),
-        Verdict::Elsewhere(commands) => one(24, commands as u64),
-        Verdict::Unordered(step, place) => two(30, step as u64, place as u64),
-        Verdict::NotFull => none(31),
-        Verdict::Safe => none(32),
+        Verdict::Broken(fault, step) => one(fault.number() as u32, step as u64),
+        Verdict::Elsewhere(commands) => one(Verdict::ELSEWHERE as u32, commands as u64),
+        Verdict::Unordered(step, place) => two(Verdict::UNORDERED as u32, step as u64, place as u64),
+        Verdict::NotFull => none(Verdict::NOT_FULL as u32),
+        Verdict::Safe => none(Verdict::SAFE as u32),
     }
 }
 

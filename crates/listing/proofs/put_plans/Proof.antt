@@ -5,7 +5,8 @@ use lib.ListN.{length}
 use Rattle.deployment.specs.File.{readFile}
 use Rattle.deployment.proofs.Bytes.{elements-are-bytes}
 use Rattle.reader.specs.Answers.{valueAt}
-use Rattle.planner.proofs.GivenLists.{Accepts, file-refused, file-accepted}
+use Rattle.reader.proofs.ShownReadings.{file-refused}
+use Rattle.planner.proofs.GivenLists.{Accepts, file-accepted}
 use Rattle.listing.proofs.PlanTexts.{printed-refusal}
 use borrow.Author.Needs.{needs}
 use Rattle.listing.proofs.put_plans.Statement.{statement}
