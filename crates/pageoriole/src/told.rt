@@ -201,7 +201,11 @@ fn verdict_told(verdict: Verdict) -> Words
     match verdict {
         Verdict::Broken(fault, step) => one(fault.number() as u32, step as u64),
         Verdict::Elsewhere(commands) => one(Verdict::ELSEWHERE as u32, commands as u64),
-        Verdict::Unordered(step, place) => two(Verdict::UNORDERED as u32, step as u64, place as u64),
+        Verdict::Unordered(step, place) => two(
+            Verdict::UNORDERED as u32,
+            step as u64,
+            place as u64,
+        ),
         Verdict::NotFull => none(Verdict::NOT_FULL as u32),
         Verdict::Safe => none(Verdict::SAFE as u32),
     }

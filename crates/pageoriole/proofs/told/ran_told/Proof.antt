@@ -12,8 +12,11 @@ one-requires c κs = search needs
 enum-known-ran-2 : tie.Need-enum-known-ran-2
 enum-known-ran-2 c = search needs
 
-fault-number-requires : tie.Need-fault-number-requires
-fault-number-requires c κs = search needs
+number-requires : tie.Need-number-requires
+number-requires c κs = search needs
+
+cast-one : tie.Need-cast-one
+cast-one c = search needs
 
 one-requires-2 : tie.Need-one-requires-2
 one-requires-2 c κs = search needs
@@ -28,7 +31,7 @@ returns : tie.Need-returns
 returns c = rw (c .before .before .ran .given .1) (c .one .ensures)
 
 returns-2 : tie.Need-returns-2
-returns-2 c = rw (c .before .before .before .ran2 .given .1, ← c .before .fault-number .ensures) (c .one2 .ensures)
+returns-2 c = rw (c .before .before .before .ran2 .given .1, ← c .before .number .ensures) (c .one2 .ensures)
 
 returns-3 : tie.Need-returns-3
 returns-3 c = rw (c .before .before .ran3 .given .1) (c .turned .ensures)
@@ -40,7 +43,8 @@ ran-told-spec =
     enum-known-ran
     one-requires
     enum-known-ran-2
-    fault-number-requires
+    number-requires
+    cast-one
     one-requires-2
     enum-known-ran-3
     turned-requires

@@ -7,8 +7,11 @@ use Rattle.pageoriole.proofs.told.verdict_told.Tie as tie
 enum-known-verdict : tie.Need-enum-known-verdict
 enum-known-verdict c = search needs
 
-fault-number-requires : tie.Need-fault-number-requires
-fault-number-requires c κs = search needs
+number-requires : tie.Need-number-requires
+number-requires c κs = search needs
+
+cast-one : tie.Need-cast-one
+cast-one c = search needs
 
 one-requires : tie.Need-one-requires
 one-requires c κs = search needs
@@ -16,11 +19,17 @@ one-requires c κs = search needs
 enum-known-verdict-2 : tie.Need-enum-known-verdict-2
 enum-known-verdict-2 c = search needs
 
+cast-one-2 : tie.Need-cast-one-2
+cast-one-2 c = search needs
+
 one-requires-2 : tie.Need-one-requires-2
 one-requires-2 c κs = search needs
 
 enum-known-verdict-3 : tie.Need-enum-known-verdict-3
 enum-known-verdict-3 c = search needs
+
+cast-two : tie.Need-cast-two
+cast-two c = search needs
 
 two-requires : tie.Need-two-requires
 two-requires c κs = search needs
@@ -28,18 +37,24 @@ two-requires c κs = search needs
 enum-told : tie.Need-enum-told
 enum-told c = search needs
 
+cast-none : tie.Need-cast-none
+cast-none c = search needs
+
 none-requires : tie.Need-none-requires
 none-requires c κs = search needs
 
 enum-told-2 : tie.Need-enum-told-2
 enum-told-2 c = search needs
 
+cast-none-2 : tie.Need-cast-none-2
+cast-none-2 c = search needs
+
 none-requires-2 : tie.Need-none-requires-2
 none-requires-2 c κs = search needs
 
 returns : tie.Need-returns
 unfolding verdictNumbers
-returns c = rw (c .before .before .before .verdict .given .1, ← c .before .fault-number .ensures) (c .one .ensures)
+returns c = rw (c .before .before .before .verdict .given .1, ← c .before .number .ensures) (c .one .ensures)
 
 returns-2 : tie.Need-returns-2
 unfolding verdictNumbers
@@ -62,15 +77,20 @@ verdict-told-spec =
     tie.close
     (tie.spec
     enum-known-verdict
-    fault-number-requires
+    number-requires
+    cast-one
     one-requires
     enum-known-verdict-2
+    cast-one-2
     one-requires-2
     enum-known-verdict-3
+    cast-two
     two-requires
     enum-told
+    cast-none
     none-requires
     enum-told-2
+    cast-none-2
     none-requires-2
     returns
     returns-2
