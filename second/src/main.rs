@@ -17,7 +17,7 @@ usage: second planlist < FILE
        second inputs --seed N --count K --dir FOLDER
        second compare --seed N --count K [--library | --planlist COMMAND --judgelist COMMAND]
        second cases FOLDER
-       second bench
+       second bench [--only TEXT]
 ";
 
 /// The value after `--name`, if it is given.
@@ -69,13 +69,14 @@ fn linked_library() -> Result<compare::Other, Box<dyn Error>> {
 }
 
 #[cfg(feature = "library")]
-fn run_bench() -> Outcome {
-    second::bench::run();
+fn run_bench(arguments: &[String]) -> Outcome {
+    let only = option(arguments, "--only").unwrap_or_default();
+    second::bench::Bench { only }.run();
     Ok(true)
 }
 
 #[cfg(not(feature = "library"))]
-fn run_bench() -> Outcome {
+fn run_bench(_: &[String]) -> Outcome {
     Err(NO_LIBRARY.into())
 }
 
@@ -106,7 +107,7 @@ fn run(arguments: &[String]) -> Outcome {
         "inputs" => write_inputs(rest),
         "compare" => run_compare(rest),
         "cases" => in_folder(rest, cases::run),
-        "bench" => run_bench(),
+        "bench" => run_bench(rest),
         _ => Err(USAGE.into()),
     }
 }
