@@ -123,7 +123,7 @@ fn print_difference(index: u64, input: &Input, difference: &Difference) {
     println!("rules {}\ninitial {}\ntarget {}", hex(&made.rules), hex(&made.initial), hex(&made.target));
     println!("keep {:?}\nscript {:?}", made.keep.as_deref().map(hex), made.script.as_deref().map(hex));
     println!("room {} for a script, {} for a file, {:?}", made.plan_room, made.file_room, input.rooms);
-    println!("flows {:?}\nours {}\nother {}", input.flows, difference.0, difference.1);
+    println!("flows {:?}\nsecond {}\nother {}", input.flows, difference.0, difference.1);
 }
 
 /// Compares so many inputs; false at the first difference.
