@@ -19,7 +19,8 @@
  *
  * Places. What is written fills the first bytes of `place`; the others keep theirs. When a call is turned away or breaks off, all do.
  *
- * Stack. pageoriole_plan_text takes less than 40 KiB of stack, each other function less than 32 KiB; docs/MEASURED.md has the marks.
+ * Stack. pageoriole_plan_text takes less than 40 KiB of stack, each other function less than 32 KiB, beside what memcpy and memset take;
+ * docs/MEASURED.md has the marks.
  */
 #ifndef PAGEORIOLE_H
 #define PAGEORIOLE_H
