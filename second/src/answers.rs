@@ -1,23 +1,43 @@
-//! One input with all answers to it: the two texts for a file, and the entries
-//! that take field values. `compare` holds two of these against each other.
+//! One input with all answers to it: the two texts of a file, and every entry,
+//! over files and over field values. `compare` holds two of these against each other.
 
-use crate::file::{self, Refusal};
+#[cfg(feature = "library")]
+mod linked;
+mod second;
+
+use crate::file;
 use crate::inputs::{self, MadeValues};
-use crate::judge::judge_values;
-use crate::plan::plan_values;
-use crate::policy::{decide_values, Decision, Flow};
-use crate::text::{judge_text, plan_text};
+use crate::policy::Flow;
+
+pub use second::ours;
+
+#[cfg(feature = "library")]
+pub use linked::linked;
 
 const FLOWS: u64 = 4;
 
-/// What a lent place holds before a call.
+/// What a lent place and lent words hold before a call.
 pub const LENT_BYTE: u8 = 0xa5;
+pub const LENT_WORD: u64 = 0xa5a5_a5a5_a5a5_a5a5;
 
-/// A file; and, for the entries that take lists, field values, the room lent
-/// for output, and flows.
+/// The most values that belong to a number.
+const WORDS: usize = 11;
+
+/// Rooms lent to the entries that write: of a file its plans, its replay and
+/// its texts; of field values the replay.
+#[derive(Clone, Copy, Debug, Default)]
+pub struct Rooms {
+    pub plans: [usize; 2],
+    pub replay: usize,
+    pub texts: [usize; 2],
+    pub replay_values: usize,
+}
+
+/// A file; field values with rooms of their own; more rooms; and flows.
 pub struct Input {
     pub file: Vec<u8>,
     pub made: MadeValues,
+    pub rooms: Rooms,
     pub flows: Vec<Flow>,
 }
 
@@ -30,77 +50,75 @@ impl Input {
             _ => inputs::flow_near(&rules, seed, number),
         });
         let flows = flows.collect();
-        Input { file: inputs::make(seed, index), made, flows }
+        let mut input = Input { file: inputs::make(seed, index), made, rooms: Rooms::default(), flows };
+        input.rooms = second::rooms(&input, &mut inputs::rooms(seed, index));
+        input
+    }
+
+    /// The script lent to an entry that can't do without one.
+    pub fn lent_script(&self) -> &[u8] {
+        self.made.script.as_deref().unwrap_or_default()
     }
 }
 
-/// The answer of an entry that writes: its numbers or the refusal, and every
-/// byte of the lent place afterwards.
-#[derive(Clone, Debug, PartialEq, Eq)]
-pub struct Written {
-    pub answer: Result<Vec<usize>, Refusal>,
+/// What one entry answers: the number of document 01, or 0 if it did its work;
+/// the lent words, of which the first hold its values; every byte of the lent place.
+#[derive(Clone, PartialEq, Eq)]
+pub struct Answer {
+    pub entry: &'static str,
+    pub number: u32,
+    pub words: [u64; WORDS],
     pub place: Vec<u8>,
 }
 
-/// The answers of the entries that take field values.
-#[derive(Clone, Debug, PartialEq, Eq)]
-pub struct Entries {
-    /// The writer: bytes.
-    pub write: Written,
-    /// Both planners: bytes, kept, commands.
-    pub plans: [Written; 2],
-    /// The judge, if there is a script: the verdict's numbers.
-    pub judge: Option<Result<Vec<usize>, Refusal>>,
-    /// Each flow by the initial policy and by the target.
-    pub decisions: Vec<[Result<Decision, Refusal>; 2]>,
+impl Answer {
+    /// Lends words and a place of so many bytes to a call that gives a number.
+    pub fn lend(entry: &'static str, room: usize, call: impl FnOnce(&mut [u8], &mut [u64]) -> u32) -> Answer {
+        let mut answer = Answer { entry, number: 0, words: [LENT_WORD; WORDS], place: vec![LENT_BYTE; room] };
+        answer.number = call(&mut answer.place, &mut answer.words);
+        answer
+    }
+}
+
+impl std::fmt::Debug for Answer {
+    fn fmt(&self, out: &mut std::fmt::Formatter) -> std::fmt::Result {
+        write!(out, "{}: {}", self.entry, self.number)?;
+        for word in self.words.iter().take_while(|&&word| word != LENT_WORD) {
+            write!(out, " {word}")?;
+        }
+        write!(out, " place ")?;
+        self.place.iter().try_for_each(|byte| write!(out, "{byte:02x}"))
+    }
 }
 
 /// The answers of one implementation to one input. An implementation that
 /// doesn't offer the entries leaves them out, and they aren't compared.
-#[derive(Clone, Debug, PartialEq, Eq)]
 pub struct Answers {
     pub plan_text: String,
     pub judge_text: String,
-    pub entries: Option<Entries>,
+    pub entries: Option<Vec<Answer>>,
+}
+
+/// Answers to one question that differ, as they are printed.
+pub type Difference = (String, String);
+
+fn text_difference(one: &str, two: &str) -> Option<Difference> {
+    (one != two).then(|| (one.to_string(), two.to_string()))
+}
+
+fn entry_difference(one: &[Answer], two: &[Answer]) -> Option<Difference> {
+    if one.len() != two.len() {
+        return Some((format!("{} entries", one.len()), format!("{} entries", two.len())));
+    }
+    let (one, two) = one.iter().zip(two).find(|(one, two)| one != two)?;
+    Some((format!("{one:?}"), format!("{two:?}")))
 }
 
 impl Answers {
-    pub fn agree(&self, other: &Answers) -> bool {
-        let entries_agree = match (&self.entries, &other.entries) {
-            (Some(one), Some(two)) => one == two,
-            _ => true,
-        };
-        self.plan_text == other.plan_text && self.judge_text == other.judge_text && entries_agree
-    }
-}
-
-fn written(room: usize, call: impl FnOnce(&mut [u8]) -> Result<Vec<usize>, Refusal>) -> Written {
-    let mut place = vec![LENT_BYTE; room];
-    let answer = call(&mut place);
-    Written { answer, place }
-}
-
-fn our_entries(input: &Input) -> Entries {
-    let values = &input.made.values();
-    let plan = |kind| {
-        written(input.made.plan_room, |place| {
-            plan_values(kind, values, place).map(|plan| vec![plan.bytes, plan.kept, plan.commands])
-        })
-    };
-    let decide = |flow| [values.initial, values.target].map(|policy| decide_values(values.rules, policy, flow));
-    Entries {
-        write: written(input.made.file_room, |place| file::write(values, place).map(|bytes| vec![bytes])),
-        plans: [plan(1), plan(2)],
-        judge: values.script.map(|_| judge_values(values).map(|verdict| verdict.numbers())),
-        decisions: input.flows.iter().map(decide).collect(),
-    }
-}
-
-/// Our answers.
-pub fn ours(input: &Input) -> Answers {
-    Answers {
-        plan_text: plan_text(&input.file),
-        judge_text: judge_text(&input.file),
-        entries: Some(our_entries(input)),
+    /// The first answer that isn't the other's.
+    pub fn difference(&self, other: &Answers) -> Option<Difference> {
+        let texts = text_difference(&self.plan_text, &other.plan_text)
+            .or_else(|| text_difference(&self.judge_text, &other.judge_text));
+        texts.or_else(|| entry_difference(self.entries.as_ref()?, other.entries.as_ref()?))
     }
 }

@@ -1,9 +1,7 @@
 //! Compares our answers with another implementation's on made inputs, and
 //! counts the outcomes by kind.
 
-use crate::answers::{ours, Answers, Entries, Input};
-use crate::file::Refusal;
-use crate::policy::Decision;
+use crate::answers::{ours, Answer, Answers, Difference, Input};
 use std::collections::BTreeMap;
 use std::io::{self, Write};
 use std::process::{Command, Stdio};
@@ -22,6 +20,14 @@ impl Programs {
         let split = |command: &str| command.split_whitespace().map(str::to_string).collect();
         Programs { planlist: split(planlist), judgelist: split(judgelist) }
     }
+
+    fn answers(&self, input: &Input) -> io::Result<Answers> {
+        Ok(Answers {
+            plan_text: output(&self.planlist, &input.file)?,
+            judge_text: output(&self.judgelist, &input.file)?,
+            entries: None,
+        })
+    }
 }
 
 /// What a program prints for the file. One that stops reading early is no fault.
@@ -36,16 +42,24 @@ fn output(command: &[String], file: &[u8]) -> io::Result<String> {
     Ok(String::from_utf8_lossy(&printed.stdout).into_owned())
 }
 
-/// The hook for the other implementation. A linked library is called here, with
-/// `input.file` for the texts and `input.made` for the entries; until then two
-/// programs stand in, and without them there is nothing to compare with.
-pub fn other(input: &Input, programs: Option<&Programs>) -> io::Result<Option<Answers>> {
-    let Some(programs) = programs else { return Ok(None) };
-    Ok(Some(Answers {
-        plan_text: output(&programs.planlist, &input.file)?,
-        judge_text: output(&programs.judgelist, &input.file)?,
-        entries: None,
-    }))
+/// The other implementation: none, two programs, or the linked library.
+pub enum Other {
+    Nobody,
+    Programs(Programs),
+    #[cfg(feature = "library")]
+    Library,
+}
+
+impl Other {
+    /// Its answers to an input, if there is one.
+    fn answers(&self, input: &Input) -> io::Result<Option<Answers>> {
+        match self {
+            Other::Nobody => Ok(None),
+            Other::Programs(programs) => programs.answers(input).map(Some),
+            #[cfg(feature = "library")]
+            Other::Library => Ok(Some(crate::answers::linked(input))),
+        }
+    }
 }
 
 // ---- Counts by outcome ----
@@ -59,20 +73,19 @@ fn text_kind(text: &str) -> String {
     }
 }
 
-fn answer_kind<T>(answer: &Result<T, Refusal>, accepted: impl FnOnce(&T) -> String) -> String {
-    match answer {
-        Ok(answer) => accepted(answer),
-        Err(refusal) => format!("refused {:>2}", refusal.number),
+/// The kind of an entry's answer: a refusal, a verdict or a broken replay by
+/// its number, a decision by its action and place, or that the work is done.
+fn answer_kind(answer: &Answer) -> String {
+    let judge = answer.entry.starts_with("judge");
+    match (answer.number, answer.words) {
+        (0, [1, ..]) if answer.entry.starts_with("decide") => "permit by a rule".to_string(),
+        (0, [0, 0, ..]) if answer.entry.starts_with("decide") => "deny by default".to_string(),
+        (0, _) if answer.entry.starts_with("decide") => "deny by a rule".to_string(),
+        (0, _) => "done".to_string(),
+        (number @ 1..=13, _) => format!("refused {number:>2}"),
+        (number, _) if judge => format!("verdict {number:>2}"),
+        (number, _) => format!("breaks off {number:>2}"),
     }
-}
-
-fn decision_kind(decision: &Decision) -> String {
-    let words = match (decision.permit, decision.place) {
-        (true, _) => "permit by a rule",
-        (false, 0) => "deny by default",
-        (false, _) => "deny by a rule",
-    };
-    words.to_string()
 }
 
 #[derive(Default)]
@@ -86,21 +99,8 @@ impl Counts {
     fn add(&mut self, answers: &Answers) {
         self.count("planlist", text_kind(&answers.plan_text));
         self.count("judgelist", text_kind(&answers.judge_text));
-        if let Some(entries) = &answers.entries {
-            self.add_entries(entries);
-        }
-    }
-
-    fn add_entries(&mut self, entries: &Entries) {
-        self.count("entry write", answer_kind(&entries.write.answer, |_| "written".to_string()));
-        for plan in &entries.plans {
-            self.count("entry plan", answer_kind(&plan.answer, |_| "planned".to_string()));
-        }
-        if let Some(judge) = &entries.judge {
-            self.count("entry judge", answer_kind(judge, |numbers| format!("verdict {:>2}", numbers[0])));
-        }
-        for decision in entries.decisions.iter().flatten() {
-            self.count("entry decide", answer_kind(decision, decision_kind));
+        for answer in answers.entries.iter().flatten() {
+            self.count(answer.entry, answer_kind(answer));
         }
     }
 
@@ -117,35 +117,36 @@ fn hex(bytes: &[u8]) -> String {
     bytes.iter().map(|byte| format!("{byte:02x}")).collect()
 }
 
-fn print_difference(index: u64, input: &Input, ours: &Answers, theirs: &Answers) {
+fn print_difference(index: u64, input: &Input, difference: &Difference) {
     let made = &input.made;
     println!("input {index} differs\nfile {}", hex(&input.file));
     println!("rules {}\ninitial {}\ntarget {}", hex(&made.rules), hex(&made.initial), hex(&made.target));
     println!("keep {:?}\nscript {:?}", made.keep.as_deref().map(hex), made.script.as_deref().map(hex));
-    println!("room {} for a script, {} for a file\nflows {:?}", made.plan_room, made.file_room, input.flows);
-    println!("ours {ours:?}\nother {theirs:?}");
+    println!("room {} for a script, {} for a file, {:?}", made.plan_room, made.file_room, input.rooms);
+    println!("flows {:?}\nsecond {}\nother {}", input.flows, difference.0, difference.1);
 }
 
 /// Compares so many inputs; false at the first difference.
-pub fn run(seed: u64, count: u64, programs: Option<&Programs>) -> io::Result<bool> {
+pub fn run(seed: u64, count: u64, other: &Other) -> io::Result<bool> {
     let mut counts = Counts::default();
-    let mut compared = 0;
+    let (mut inputs, mut entries) = (0, 0);
     for index in 0..count {
         let input = Input::new(seed, index);
         let answers = ours(&input);
-        if let Some(theirs) = other(&input, programs)? {
-            if !answers.agree(&theirs) {
-                print_difference(index, &input, &answers, &theirs);
+        if let Some(theirs) = other.answers(&input)? {
+            if let Some(difference) = answers.difference(&theirs) {
+                print_difference(index, &input, &difference);
                 return Ok(false);
             }
-            compared += 1;
+            inputs += 1;
+            entries += 2 + theirs.entries.map_or(0, |entries| entries.len());
         }
         counts.add(&answers);
     }
     counts.print();
-    match compared {
+    match inputs {
         0 => println!("seed {seed}: {count} inputs, our side only, nothing compared"),
-        _ => println!("seed {seed}: {count} inputs, {compared} compared, no difference"),
+        _ => println!("seed {seed}: {inputs} inputs, {entries} answers compared, no difference"),
     }
     Ok(true)
 }

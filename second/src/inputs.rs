@@ -18,6 +18,7 @@ pub use values::MadeValues;
 
 const FLOWS: u64 = 0x666c_6f77;
 const VALUES: u64 = 0x7661_6c75;
+const ROOMS: u64 = 0x726f_6f6d;
 
 /// The input with this index.
 pub fn make(seed: u64, index: u64) -> Vec<u8> {
@@ -83,6 +84,37 @@ pub fn values(seed: u64, index: u64) -> MadeValues {
         _ => at_the_limits(random),
     };
     values::gather(random, &fields)
+}
+
+/// A maker of rooms for what is written.
+pub struct RoomMaker(Random);
+
+impl RoomMaker {
+    /// A room about as large as needed, if that is known.
+    pub fn room(&mut self, needed: Option<usize>) -> usize {
+        values::any_room(&mut self.0, needed.unwrap_or(values::ROOM_OF_REFUSED))
+    }
+}
+
+/// The maker of rooms with this index.
+pub fn rooms(seed: u64, index: u64) -> RoomMaker {
+    RoomMaker(Random::new(seed ^ ROOMS, index))
+}
+
+/// So many different rules of 27 bytes.
+pub fn catalogue(seed: u64, count: usize) -> Vec<Vec<u8>> {
+    rules::catalogue(&mut Random::new(seed, 0), count)
+}
+
+/// So many flows of any numbers.
+pub fn any_flows(seed: u64, count: usize) -> Vec<Flow> {
+    let random = &mut Random::new(seed ^ FLOWS, 0);
+    let mut word = || random.next() as u32;
+    (0..count).map(|_| flow_of([word(), word(), word(), word(), word()])).collect()
+}
+
+pub fn shuffle(seed: u64, list: &mut [u16]) {
+    Random::new(seed, 0).shuffle(list);
 }
 
 /// The flow with this index, near the values that the made rules favour.

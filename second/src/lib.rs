@@ -2,6 +2,8 @@
 //! It serves as the other side of comparisons and as a yardstick for speed.
 
 pub mod answers;
+#[cfg(feature = "library")]
+pub mod bench;
 pub mod brute;
 pub mod cases;
 pub mod commands;
@@ -9,6 +11,8 @@ pub mod compare;
 pub mod file;
 pub mod inputs;
 pub mod judge;
+#[cfg(feature = "library")]
+pub mod library;
 pub mod plan;
 pub mod policy;
 pub mod replay;

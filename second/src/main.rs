@@ -1,5 +1,5 @@
 //! The command line: `second planlist`, `judgelist`, `vectors`, `brute`,
-//! `inputs`, `compare` and `cases`; see README.md.
+//! `inputs`, `compare`, `cases` and `bench`; see README.md.
 
 use second::{brute, cases, compare, inputs, text, vectors};
 use std::error::Error;
@@ -15,8 +15,9 @@ usage: second planlist < FILE
        second vectors FOLDER
        second brute [--rules N]
        second inputs --seed N --count K --dir FOLDER
-       second compare --seed N --count K [--planlist COMMAND --judgelist COMMAND]
+       second compare --seed N --count K [--library | --planlist COMMAND --judgelist COMMAND]
        second cases FOLDER
+       second bench [--only TEXT]
 ";
 
 /// The value after `--name`, if it is given.
@@ -54,14 +55,46 @@ fn write_inputs(arguments: &[String]) -> Outcome {
     Ok(true)
 }
 
+#[cfg(not(feature = "library"))]
+const NO_LIBRARY: &str = "this was built without the feature `library`";
+
+#[cfg(feature = "library")]
+fn linked_library() -> Result<compare::Other, Box<dyn Error>> {
+    Ok(compare::Other::Library)
+}
+
+#[cfg(not(feature = "library"))]
+fn linked_library() -> Result<compare::Other, Box<dyn Error>> {
+    Err(NO_LIBRARY.into())
+}
+
+#[cfg(feature = "library")]
+fn run_bench(arguments: &[String]) -> Outcome {
+    let only = option(arguments, "--only").unwrap_or_default();
+    second::bench::Bench { only }.run();
+    Ok(true)
+}
+
+#[cfg(not(feature = "library"))]
+fn run_bench(_: &[String]) -> Outcome {
+    Err(NO_LIBRARY.into())
+}
+
+fn other_side(arguments: &[String]) -> Result<compare::Other, Box<dyn Error>> {
+    let library = arguments.iter().any(|argument| argument == "--library");
+    match (option(arguments, "--planlist"), option(arguments, "--judgelist")) {
+        (None, None) if library => linked_library(),
+        (None, None) => Ok(compare::Other::Nobody),
+        (Some(planlist), Some(judgelist)) if !library => {
+            Ok(compare::Other::Programs(compare::Programs::new(planlist, judgelist)))
+        }
+        _ => Err("either --library, or --planlist and --judgelist together".into()),
+    }
+}
+
 fn run_compare(arguments: &[String]) -> Outcome {
-    let programs = match (option(arguments, "--planlist"), option(arguments, "--judgelist")) {
-        (Some(planlist), Some(judgelist)) => Some(compare::Programs::new(planlist, judgelist)),
-        (None, None) => None,
-        _ => return Err("--planlist and --judgelist go together".into()),
-    };
     let (seed, count) = (number(arguments, "--seed", 1)?, number(arguments, "--count", 1000)?);
-    Ok(compare::run(seed, count, programs.as_ref())?)
+    Ok(compare::run(seed, count, &other_side(arguments)?)?)
 }
 
 fn run(arguments: &[String]) -> Outcome {
@@ -74,6 +107,7 @@ fn run(arguments: &[String]) -> Outcome {
         "inputs" => write_inputs(rest),
         "compare" => run_compare(rest),
         "cases" => in_folder(rest, cases::run),
+        "bench" => run_bench(rest),
         _ => Err(USAGE.into()),
     }
 }

@@ -32,19 +32,30 @@ impl Range {
     }
 }
 
-fn number(bytes: &[u8]) -> u32 {
-    bytes.iter().fold(0, |sum, &byte| sum << 8 | u32::from(byte))
+type RuleBytes = [u8; file::RULE_BYTES];
+
+fn whole(rule: &[u8]) -> &RuleBytes {
+    rule.try_into().expect("the bytes of a rule")
 }
 
-fn range(rule: &[u8], start: usize, width: usize) -> Range {
-    let low = number(&rule[start..start + width]);
-    let high = number(&rule[start + width..start + 2 * width]);
-    Range { low, high }
+fn one_byte(rule: &RuleBytes, start: usize) -> Range {
+    Range { low: u32::from(rule[start]), high: u32::from(rule[start + 1]) }
+}
+
+fn two_bytes(rule: &RuleBytes, start: usize) -> Range {
+    let number = |at: usize| u32::from(u16::from_be_bytes([rule[at], rule[at + 1]]));
+    Range { low: number(start), high: number(start + 2) }
+}
+
+fn four_bytes(rule: &RuleBytes, start: usize) -> Range {
+    let number = |at: usize| u32::from_be_bytes([rule[at], rule[at + 1], rule[at + 2], rule[at + 3]]);
+    Range { low: number(start), high: number(start + 4) }
 }
 
 /// The five ranges of a rule's 27 bytes, in the order of the file.
 pub fn ranges(rule: &[u8]) -> [Range; 5] {
-    [range(rule, 1, 1), range(rule, 3, 4), range(rule, 11, 2), range(rule, 15, 4), range(rule, 23, 2)]
+    let rule = whole(rule);
+    [one_byte(rule, 1), four_bytes(rule, 3), two_bytes(rule, 11), four_bytes(rule, 15), two_bytes(rule, 23)]
 }
 
 /// Whether 27 bytes are a rule: action 0 or 1, no low above its high.
@@ -53,11 +64,12 @@ pub fn is_rule(value: &[u8]) -> bool {
 }
 
 pub fn matches(rule: &[u8], flow: &Flow) -> bool {
-    range(rule, 1, 1).holds(u32::from(flow.protocol))
-        && range(rule, 3, 4).holds(flow.source)
-        && range(rule, 11, 2).holds(u32::from(flow.source_port))
-        && range(rule, 15, 4).holds(flow.destination)
-        && range(rule, 23, 2).holds(u32::from(flow.destination_port))
+    let rule = whole(rule);
+    one_byte(rule, 1).holds(u32::from(flow.protocol))
+        && four_bytes(rule, 3).holds(flow.source)
+        && two_bytes(rule, 11).holds(u32::from(flow.source_port))
+        && four_bytes(rule, 15).holds(flow.destination)
+        && two_bytes(rule, 23).holds(u32::from(flow.destination_port))
 }
 
 /// Decides a flow by a policy's value over the rules of accepted contents.

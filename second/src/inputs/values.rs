@@ -6,6 +6,9 @@ use crate::commands::script_field;
 use crate::file::{check, file_bytes, numbers, Values, TAG_INITIAL, TAG_KEEP, TAG_RULE, TAG_SCRIPT, TAG_TARGET};
 use crate::plan::plan;
 
+/// What is lent where nothing will be written.
+pub const ROOM_OF_REFUSED: usize = 64;
+
 /// Field values, and the sizes of the places lent for a script field and a file.
 pub struct MadeValues {
     pub rules: Vec<u8>,
@@ -35,7 +38,7 @@ fn first_value(fields: &[Field], tag: u8) -> Option<Vec<u8>> {
 
 /// Bytes of a script field and of a file, had they room enough.
 fn needed(random: &mut Random, values: &Values) -> (usize, usize) {
-    let Ok(contents) = check(values) else { return (64, 64) };
+    let Ok(contents) = check(values) else { return (ROOM_OF_REFUSED, ROOM_OF_REFUSED) };
     let keep = contents.keep.map(numbers);
     let kind = random.pick(&[1, 2]);
     let plan = plan(kind, &numbers(contents.initial), &numbers(contents.target), keep.as_deref());
@@ -43,7 +46,7 @@ fn needed(random: &mut Random, values: &Values) -> (usize, usize) {
 }
 
 /// A room about as large as needed: too small, just enough, or larger.
-fn any_room(random: &mut Random, needed: usize) -> usize {
+pub fn any_room(random: &mut Random, needed: usize) -> usize {
     match random.below(8) {
         0 => 0,
         1 => needed.saturating_sub(1),

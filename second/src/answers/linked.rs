@@ -1,0 +1,79 @@
+//! The answers of the linked library, in the order of ours.
+
+use super::{Answer, Answers, Input, LENT_BYTE};
+use crate::file;
+use crate::library;
+
+/// No text is longer.
+const TEXT_BYTES: usize = 65_536;
+
+type Texts = fn(&[u8], &mut [u8], &mut [u64]) -> u32;
+
+fn text(entry: Texts, file: &[u8]) -> String {
+    let mut place = vec![LENT_BYTE; TEXT_BYTES];
+    let mut bytes = [0];
+    let number = entry(file, &mut place, &mut bytes);
+    match (number, place.get(..bytes[0] as usize)) {
+        (0, Some(text)) => String::from_utf8_lossy(text).into_owned(),
+        _ => format!("number {number}, {} bytes", bytes[0]),
+    }
+}
+
+fn over_files(input: &Input) -> Vec<Answer> {
+    let (file, rooms) = (&input.file, &input.rooms);
+    let mut all = vec![
+        Answer::lend("read file", 0, |_, words| library::read(file, words)),
+        Answer::lend("read file to judge", 0, |_, words| library::read_to_judge(file, words)),
+        Answer::lend("replay file", rooms.replay, |place, words| library::replay_file(file, place, words)),
+        Answer::lend("plan 1 file", rooms.plans[0], |place, words| library::plan_file(1, file, place, words)),
+        Answer::lend("plan 2 file", rooms.plans[1], |place, words| library::plan_file(2, file, place, words)),
+        Answer::lend("judge file", 0, |_, words| library::judge_file(file, words)),
+        Answer::lend("text of plans", rooms.texts[0], |place, words| library::plan_text(file, place, words)),
+        Answer::lend("text of judge", rooms.texts[1], |place, words| library::judge_text(file, place, words)),
+    ];
+    for flow in &input.flows {
+        for of_target in [false, true] {
+            all.push(Answer::lend("decide file", 0, |_, words| library::decide_file(file, of_target, flow, words)));
+        }
+    }
+    all
+}
+
+/// Whether a policy over rules passes its tests, as the library itself says.
+fn accepted(rules: &[u8], list: &[u8]) -> bool {
+    let values = file::Values { rules, initial: list, ..file::Values::default() };
+    library::check(&values, &mut []) == 0
+}
+
+fn over_values(input: &Input) -> Vec<Answer> {
+    let (values, made, script) = (&input.made.values(), &input.made, input.lent_script());
+    let (rules, initial) = (values.rules, values.initial);
+    let mut all = vec![
+        Answer::lend("check values", 0, |_, words| library::check(values, words)),
+        Answer::lend("write values", made.file_room, |place, words| library::write(values, place, words)),
+        Answer::lend("replay values", input.rooms.replay_values, |place, words| {
+            library::replay(rules, initial, script, place, words)
+        }),
+        Answer::lend("plan 1 values", made.plan_room, |place, words| library::plan(1, values, place, words)),
+        Answer::lend("plan 2 values", made.plan_room, |place, words| library::plan(2, values, place, words)),
+        Answer::lend("judge values", 0, |_, words| library::judge(values, script, words)),
+    ];
+    for flow in &input.flows {
+        for list in [initial, values.target] {
+            all.push(Answer::lend("decide values", 0, |_, words| library::decide(rules, list, flow, words)));
+            if accepted(rules, list) {
+                all.push(Answer::lend("decide accepted values", 0, |_, words| {
+                    library::decide_accepted(rules, list, flow, words)
+                }));
+            }
+        }
+    }
+    all
+}
+
+pub fn linked(input: &Input) -> Answers {
+    let mut entries = over_files(input);
+    entries.extend(over_values(input));
+    let (plan_text, judge_text) = (text(library::plan_text, &input.file), text(library::judge_text, &input.file));
+    Answers { plan_text, judge_text, entries: Some(entries) }
+}

@@ -1,0 +1,166 @@
+//! Our answers, each brought to a number with its values.
+
+use super::{Answer, Answers, Input, Rooms};
+use crate::commands::commands_of;
+use crate::file::{self, Contents, Refusal, Values};
+use crate::inputs::RoomMaker;
+use crate::judge::judge;
+use crate::plan::plan_contents;
+use crate::policy::{self, Decision, Flow};
+use crate::replay::{self, RunningList};
+use crate::text::{judge_text, plan_text};
+
+type Outcome = (u32, Vec<usize>);
+type Scripted<'a> = Result<(Contents<'a>, &'a [u8]), Refusal>;
+
+const NO_ROOM: u32 = 13;
+
+fn outcome<T>(answer: Result<T, Refusal>, accepted: impl FnOnce(T) -> Outcome) -> Outcome {
+    match answer {
+        Ok(answer) => accepted(answer),
+        Err(Refusal { number, position }) => (u32::from(number), vec![position]),
+    }
+}
+
+fn done<T>(answer: Result<T, Refusal>, values: impl FnOnce(T) -> Vec<usize>) -> Outcome {
+    outcome(answer, |answer| (0, values(answer)))
+}
+
+/// Start and size of a part of a file.
+fn span(file: &[u8], part: &[u8]) -> [usize; 2] {
+    [part.as_ptr() as usize - file.as_ptr() as usize, part.len()]
+}
+
+fn places(file: &[u8], contents: &Contents) -> Vec<usize> {
+    let mut all = vec![contents.rules.len()];
+    all.extend(span(file, contents.initial));
+    all.extend(span(file, contents.target));
+    for part in [contents.keep, contents.script] {
+        all.push(usize::from(part.is_some()));
+        all.extend(part.map_or([0, 0], |part| span(file, part)));
+    }
+    all
+}
+
+fn decision(decision: Decision) -> Vec<usize> {
+    vec![usize::from(decision.permit), decision.place]
+}
+
+fn decide_file(file: &[u8], of_target: bool, flow: &Flow) -> Outcome {
+    done(file::read(file), |contents| {
+        let list = if of_target { contents.target } else { contents.initial };
+        decision(policy::decide(&contents.rules, list, flow))
+    })
+}
+
+/// The same for values that pass their tests; nothing for others.
+fn decide_accepted(rules: &[u8], list: &[u8], flow: &Flow) -> Option<Outcome> {
+    let rules = file::check_rules(rules).ok()?;
+    file::check_policy(list, rules.len()).ok()?;
+    Some((0, decision(policy::decide(&rules, list, flow))))
+}
+
+fn planned(kind: u8, contents: Result<Contents, Refusal>, place: &mut [u8]) -> Outcome {
+    let plan = contents.and_then(|contents| plan_contents(kind, &contents, place));
+    done(plan, |plan| vec![plan.kept, plan.commands, plan.bytes])
+}
+
+fn replayed(scripted: Scripted, place: &mut [u8]) -> Outcome {
+    outcome(scripted, |(contents, script)| {
+        let mut list = RunningList::new(&file::numbers(contents.initial), contents.rules.len());
+        match replay::replay(&mut list, &commands_of(script), |_, _| ()) {
+            Err(broken) => (u32::from(broken.number), vec![broken.step]),
+            Ok(()) => done(file::put(&file::list_value(list.rules()), place), |bytes| vec![bytes]),
+        }
+    })
+}
+
+fn judged(scripted: Scripted) -> Outcome {
+    outcome(scripted, |(contents, script)| {
+        let (initial, target) = (file::numbers(contents.initial), file::numbers(contents.target));
+        let numbers = judge(contents.rules.len(), &initial, &target, &commands_of(script)).numbers();
+        (numbers[0] as u32, numbers[1..].to_vec())
+    })
+}
+
+fn put_text(text: &str, place: &mut [u8]) -> Outcome {
+    done(file::put(text.as_bytes(), place), |bytes| vec![bytes])
+}
+
+/// Values tested with the script that is lent beside them.
+fn scripted<'a>(values: &Values<'a>, script: &'a [u8]) -> Scripted<'a> {
+    file::check(&Values { script: Some(script), ..*values }).map(|contents| (contents, script))
+}
+
+/// The replay is given neither a target nor a keep list.
+fn to_replay(input: &Input) -> Scripted<'_> {
+    let values = Values { target: &[], keep: None, ..input.made.values() };
+    scripted(&values, input.lent_script())
+}
+
+/// Rooms about as large as what is to be written.
+pub fn rooms(input: &Input, maker: &mut RoomMaker) -> Rooms {
+    let mut room = |(number, values): Outcome| maker.room((number == NO_ROOM).then(|| values[0]));
+    let file = &input.file;
+    Rooms {
+        plans: [1, 2].map(|kind| room(planned(kind, file::read(file), &mut []))),
+        replay: room(replayed(file::read_with_script(file), &mut [])),
+        texts: [plan_text(file), judge_text(file)].map(|text| room(put_text(&text, &mut []))),
+        replay_values: room(replayed(to_replay(input), &mut [])),
+    }
+}
+
+fn lend(entry: &'static str, room: usize, call: impl FnOnce(&mut [u8]) -> Outcome) -> Answer {
+    Answer::lend(entry, room, |place, words| {
+        let (number, values) = call(place);
+        for (word, value) in words.iter_mut().zip(values) {
+            *word = value as u64;
+        }
+        number
+    })
+}
+
+fn over_files(input: &Input) -> Vec<Answer> {
+    let (file, rooms) = (&input.file, &input.rooms);
+    let mut all = vec![
+        lend("read file", 0, |_| done(file::read(file), |contents| places(file, &contents))),
+        lend("read file to judge", 0, |_| done(file::read_with_script(file), |(contents, _)| places(file, &contents))),
+        lend("replay file", rooms.replay, |place| replayed(file::read_with_script(file), place)),
+        lend("plan 1 file", rooms.plans[0], |place| planned(1, file::read(file), place)),
+        lend("plan 2 file", rooms.plans[1], |place| planned(2, file::read(file), place)),
+        lend("judge file", 0, |_| judged(file::read_with_script(file))),
+        lend("text of plans", rooms.texts[0], |place| put_text(&plan_text(file), place)),
+        lend("text of judge", rooms.texts[1], |place| put_text(&judge_text(file), place)),
+    ];
+    for flow in &input.flows {
+        all.extend([false, true].map(|of_target| lend("decide file", 0, |_| decide_file(file, of_target, flow))));
+    }
+    all
+}
+
+fn over_values(input: &Input) -> Vec<Answer> {
+    let (values, made) = (&input.made.values(), &input.made);
+    let mut all = vec![
+        lend("check values", 0, |_| done(file::check(values), |_| vec![])),
+        lend("write values", made.file_room, |place| done(file::write(values, place), |bytes| vec![bytes])),
+        lend("replay values", input.rooms.replay_values, |place| replayed(to_replay(input), place)),
+        lend("plan 1 values", made.plan_room, |place| planned(1, file::check(values), place)),
+        lend("plan 2 values", made.plan_room, |place| planned(2, file::check(values), place)),
+        lend("judge values", 0, |_| judged(scripted(values, input.lent_script()))),
+    ];
+    for flow in &input.flows {
+        for list in [values.initial, values.target] {
+            let decided = policy::decide_values(values.rules, list, flow);
+            all.push(lend("decide values", 0, |_| done(decided, decision)));
+            let accepted = decide_accepted(values.rules, list, flow);
+            all.extend(accepted.map(|outcome| lend("decide accepted values", 0, |_| outcome)));
+        }
+    }
+    all
+}
+
+pub fn ours(input: &Input) -> Answers {
+    let mut entries = over_files(input);
+    entries.extend(over_values(input));
+    Answers { plan_text: plan_text(&input.file), judge_text: judge_text(&input.file), entries: Some(entries) }
+}

@@ -1,0 +1,180 @@
+//! Times the linked library and this implementation on the same inputs, in one
+//! run: the two alternate, and the best of several repetitions counts.
+
+mod made;
+
+use crate::commands::commands_of;
+use crate::file::{self, numbers};
+use crate::judge::judge_values;
+use crate::library;
+use crate::plan::plan_values;
+use crate::policy::{decide, Flow};
+use made::{Made, Policies};
+use std::hint::black_box;
+use std::time::{Duration, Instant};
+
+const REPETITIONS: usize = 25;
+const LONG_REPETITIONS: usize = 7;
+
+/// A repetition makes so many calls that it takes about this long.
+const REPETITION: Duration = Duration::from_millis(4);
+
+const FLOWS: usize = 1_000_000;
+const PLAN_BYTES: usize = 5_124;
+
+/// What the ratio of a line should stay under.
+const GOAL: f64 = 1.5;
+
+// ---- Timing ----
+
+fn time<T>(calls: u32, call: &mut impl FnMut() -> T) -> Duration {
+    let start = Instant::now();
+    for _ in 0..calls {
+        black_box(call());
+    }
+    start.elapsed() / calls
+}
+
+/// The best time of one call of each, the two in turn.
+fn best<T, U>(repetitions: usize, mut ours: impl FnMut() -> T, mut second: impl FnMut() -> U) -> (Duration, Duration) {
+    let longest = time(1, &mut ours).max(time(1, &mut second)).max(Duration::from_nanos(1));
+    let calls = (REPETITION.as_nanos() / longest.as_nanos()).clamp(1, 100_000) as u32;
+    let mut least = (Duration::MAX, Duration::MAX);
+    for _ in 0..repetitions {
+        least.0 = least.0.min(time(calls, &mut ours));
+        least.1 = least.1.min(time(calls, &mut second));
+    }
+    least
+}
+
+fn print_line(what: &str, (ours, second): (Duration, Duration)) {
+    let microseconds = |time: Duration| time.as_secs_f64() * 1e6;
+    let ratio = ours.as_secs_f64() / second.as_secs_f64();
+    let mark = if ratio > GOAL { "  above the goal" } else { "" };
+    println!("{what:<60} {:>11.2} {:>11.2} {ratio:>6.2}{mark}", microseconds(ours), microseconds(second));
+}
+
+/// The lines whose text has this part are timed.
+pub struct Bench<'a> {
+    pub only: &'a str,
+}
+
+// ---- The lines ----
+
+/// Both sides must say the same before they are timed.
+fn same<T: PartialEq + std::fmt::Debug>(ours: T, second: T) {
+    assert_eq!(ours, second, "the two answer differently");
+}
+
+impl Bench<'_> {
+    fn line<T, U>(&self, what: String, repetitions: usize, ours: impl FnMut() -> T, second: impl FnMut() -> U) {
+        if what.contains(self.only) {
+            print_line(&what, best(repetitions, ours, second));
+        }
+    }
+
+    fn reading(&self, rules: usize) {
+        let file = Made::full_file(rules);
+        let mut words = [0; 11];
+        same(library::read(&file, &mut words), 0);
+        same(words[0] as usize, file::read(&file).expect("an accepted file").rules.len());
+        self.line(
+            format!("read a file of {rules} rules"),
+            REPETITIONS,
+            || library::read(black_box(&file), &mut words),
+            || file::read(black_box(&file)),
+        );
+    }
+
+    /// The tests that the planners and the judge begin with.
+    fn testing(&self, rules: usize) {
+        let made = Made::new(rules / 2, Policies::Equal);
+        let values = made.values();
+        same(library::check(&values, &mut []), 0);
+        self.line(
+            format!("test field values of {rules} rules"),
+            REPETITIONS,
+            || library::check(black_box(&values), &mut []),
+            || file::check(black_box(&values)),
+        );
+    }
+
+    fn deciding(&self, rules: usize, flows: &[Flow]) {
+        let (bytes, policy) = (made::plain_catalogue(rules), Made::new(rules, Policies::Equal).initial);
+        let catalogue: Vec<&[u8]> = bytes.chunks_exact(file::RULE_BYTES).collect();
+        let mut words = [0; 2];
+        let ours = |flow: &Flow, words: &mut [u64; 2]| {
+            library::decide_accepted(&bytes, &policy, flow, words);
+            words[1]
+        };
+        let second = |flow: &Flow| decide(&catalogue, &policy, flow).place as u64;
+        for flow in flows.iter().take(1000) {
+            same(ours(flow, &mut words), second(flow));
+        }
+        self.line(
+            format!("decide {FLOWS} flows by {rules} rules"),
+            LONG_REPETITIONS,
+            || flows.iter().map(|flow| ours(flow, &mut words)).sum::<u64>(),
+            || flows.iter().map(second).sum::<u64>(),
+        );
+    }
+
+    fn planning(&self, kind: u8, rules: usize, policies: Policies) {
+        let made = Made::new(rules, policies);
+        let values = made.values();
+        let (mut place, mut other_place, mut words) = ([0; PLAN_BYTES], [0; PLAN_BYTES], [0; 3]);
+        same(library::plan(kind, &values, &mut place, &mut words), 0);
+        let plan = plan_values(kind, &values, &mut other_place).expect("accepted values");
+        same((words[1] as usize, &place), (plan.commands, &other_place));
+        self.line(
+            format!("plan type {kind}, {rules} rules, {}, {} commands", policies.name(), plan.commands),
+            REPETITIONS,
+            || library::plan(kind, black_box(&values), &mut place, &mut words),
+            || plan_values(kind, black_box(&values), &mut other_place),
+        );
+    }
+
+    fn judging(&self, what: &str, made: &Made) {
+        let values = made.values();
+        let script = made.script.as_deref().expect("a script to judge");
+        let (rules, commands) = (numbers(&made.initial).len(), commands_of(script).len());
+        let verdict = || judge_values(black_box(&values)).expect("accepted values").numbers()[0] as u32;
+        let mut words = [0; 2];
+        same(library::judge(&values, script, &mut words), verdict());
+        self.line(
+            format!("judge {commands} commands, {what}, {rules} rules"),
+            REPETITIONS,
+            || library::judge(black_box(&values), script, &mut words),
+            verdict,
+        );
+    }
+
+    /// Prints all lines.
+    pub fn run(&self) {
+        println!("{:<60} {:>11} {:>11} {:>6}", "best time of one call", "library/µs", "second/µs", "ratio");
+        for rules in [1024, 256, 64] {
+            self.reading(rules);
+        }
+        for rules in [1024, 256, 64] {
+            self.testing(rules);
+        }
+        for rules in [512, 128, 32] {
+            self.deciding(rules, &made::flows(rules, FLOWS));
+        }
+        for kind in [1, 2] {
+            for policies in Policies::ALL {
+                for rules in [512, 128, 32] {
+                    self.planning(kind, rules, policies);
+                }
+            }
+        }
+        for rules in [512, 128, 32] {
+            self.judging("a script that wanders", &Made::wandering(rules));
+        }
+        for rules in [512, 128, 32] {
+            self.judging("the type 1 plan of disjoint", &Made::disjoint_plan(rules));
+        }
+        println!("read: a file with equal policies of half the rules, a keep list of all of them, and a script of two commands a rule;");
+        println!("decide: over accepted values; plan and judge: over field values, with their tests, over a catalogue of twice the rules.");
+    }
+}
