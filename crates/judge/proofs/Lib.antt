@@ -1,4 +1,5 @@
 pub mod Support
+pub mod Growth
 pub mod Search
 pub mod Verdicts
 pub mod ValuesRead

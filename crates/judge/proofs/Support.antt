@@ -17,7 +17,7 @@ use Rattle.policy.specs.Lists.{all, mem, contains, before}
 use Rattle.policy.specs.Judge.{supportedBy, supported, full}
 use Rattle.policy.specs.Command.{within}
 use Rattle.policy.specs.Properties.{In}
-use Rattle.policy.proofs.Tests.{byTest, never, and-both, both-and, or-either, either-or}
+use Rattle.policy.proofs.Tests.{byTest, never, both-and, or-either, either-or}
 use Rattle.policy.proofs.Lists.{not-in, place-in, before-at}
 use Rattle.policy.proofs.Order.{not-earlier}
 use Rattle.running.specs.Places.{further, placeIn}
@@ -85,13 +85,7 @@ module _ (test : ℕ → Bool) where
   ahead-stuck i l h e =
       byTest (passesAt test i l) (λ t. absurd (omega (arith, rw t at e))) (λ f. front-ends i l h f)
 
--- a weaker test has a longer front part, the same test on the rules of the list the same
-front-longer : (test other : ℕ → Bool) → ((x : ℕ) → test x ≡ true → other x ≡ true) → (l : List ℕ) → front test l ≤ front other l
-unfolding front
-front-longer test other weaker [] = zero-le
-front-longer test other weaker (x ∷ l) =
-    byTest (test x) (λ t. rw (t, weaker x t) (suc-le-suc (front-longer test other weaker l))) (λ f. rw f zero-le)
-
+-- the same test on the rules of the list has the same front part
 front-same : (test other : ℕ → Bool) (l : List ℕ) → ((x : ℕ) → In x l → test x ≡ other x) → front test l ≡ front other l
 unfolding front
 front-same test other [] alike = refl
@@ -171,23 +165,14 @@ module _ (places : List ℕ) (k : ℕ) (policy : List ℕ) (i : ℕ) (inside : i
   unfolding stands within
   stands-somewhere n = passes-inside (stands places k) i policy inside ∙ rw (le-leb 1 (getD places (getD policy i 0) 0) (omega arith))
 
-stands-longer : (places : List ℕ) (k x : ℕ) → stands places k x ≡ true → stands places (suc k) x ≡ true
-unfolding stands within
-stands-longer places k x e =
-    let both = and-both (leb 1 (getD places x 0)) (leb (getD places x 0) k) e in
-    both-and (both .0) (le-leb (getD places x 0) (suc k) (omega (arith, leb-true (getD places x 0) k (both .1))))
-
--- the front part by the first k rules: none at the start, and it only grows
+-- the front part by none of the rules
 pub front-start : (places policy : List ℕ) → 0 ≡ front (stands places 0) policy
 unfolding front stands
 front-start places [] = refl
 front-start places (x ∷ policy) = rw (within-no (getD places x 0))
 
-pub front-grows : (places : List ℕ) (k : ℕ) (policy : List ℕ) → front (stands places k) policy ≤ front (stands places (k + 1)) policy
-front-grows places k policy = rw add-one (front-longer (stands places k) (stands places (suc k)) (stands-longer places k) policy)
-
 module _ (places l : List ℕ) (listed : Listed places l) where
-  stands-among : (k x : ℕ) → x < 1024 → stands places k x ≡ mem x (take k l)
+  pub stands-among : (k x : ℕ) → x < 1024 → stands places k x ≡ mem x (take k l)
   unfolding stands
   stands-among k x h = ap (λ (p : ℕ). within p k) (listed .says .1 x h) ∙ place-among x k l
 

@@ -4,7 +4,6 @@ ghost use mathlib.Core.Path.{_≡_};
 ghost use mathlib.Core.Bool.{true, false, cond, _||_};
 ghost use mathlib.Core.Option.{some};
 ghost use Prim.Native.Nat.{_+_, _≤_};
-ghost use lib.ListN.{getD};
 ghost use Rattle.policy.specs.Judge.{ordered, full, firstUnsupported, verdict};
 ghost use Rattle.deployment.specs.Values.{numbersOf, scriptOf};
 ghost use Rattle.deployment.specs.File.{readToJudge};
@@ -34,22 +33,12 @@ use reader::values::RULE_BYTES;
 use reader::values::list_of;
 use replay::Replaying;
 use running::Refusing;
+use running::place_of;
 
 // What the judge answers: the verdict, or why the input is turned away.
 pub enum Judged {
     Said(Verdict),
     Turned(Refusal),
-}
-
-// The place of rule r in the list that the array speaks of; 0 if it is absent.
-fn place_of(places: &[u16], r: u16) -> usize
-    ensures { λ n. ⌜ n ≡ getD (now (places .entry)) r 0 ⌝ }
-{
-    let at = r as usize;
-    if places.len() <= at {
-        return 0;
-    }
-    places[at] as usize
 }
 
 // Whether the policy has a rule at index i, and it stands among the first k of the list.
@@ -98,6 +87,18 @@ fn front_part(policy: &[u8], from: usize, places: &[u16], k: usize) -> usize
     i
 }
 
+// The same as the list's k-th rule comes: `from` is the length among the rules before it, and it grows only if that rule is the policy's next.
+fn grown(policy: &[u8], from: usize, comes_next: bool, places: &[u16], k: usize) -> usize
+    requires { ⌜ («comes_next» ≡ true → from + 1 ≤ front (stands (now places) k) (numbersOf (now policy)))
+        × («comes_next» ≡ false → from ≡ front (stands (now places) k) (numbersOf (now policy))) ⌝ }
+    ensures { λ n. ⌜ n ≡ front (stands (now (places .entry)) k) (numbersOf (now (policy .entry))) ⌝ }
+{
+    if comes_next {
+        return front_part(policy, from + 1, places, k);
+    }
+    from
+}
+
 // One rule further in a policy, if the rule at index i stands among the first k of the list.
 fn advanced(policy: &[u8], i: usize, places: &[u16], k: usize) -> usize
     ensures { λ n. ⌜ n ≡ cond (passesAt (stands (now (places .entry)) k) i (numbersOf (now (policy .entry)))) (i + 1) i ⌝ }
@@ -129,12 +130,15 @@ fn is_ordered(list: &[u16], places: &[u16], initial: &[u8], target: &[u8]) -> bo
     let mut b = 0;
     let mut k = 0;
     while k < list.len() {
-        if !is_next(initial, a, target, b, list[k]) {
+        let r = list[k];
+        let by_initial = is_at(initial, a, r);
+        let by_target = is_at(target, b, r);
+        if !by_initial && !by_target {
             return false;
         }
         k += 1;
-        a = front_part(initial, a, places, k);
-        b = front_part(target, b, places, k);
+        a = grown(initial, a, by_initial, places, k);
+        b = grown(target, b, by_target, places, k);
     }
     true
 }

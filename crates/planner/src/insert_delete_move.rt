@@ -24,6 +24,7 @@ use reader::values::list_of;
 use running::MOST;
 use running::Places;
 use running::Running;
+use running::place_of;
 
 // The running list in the first stage: its first `front` rules are the front, the settled ones of them are marked by their numbers, and so
 // many commands are sent.
@@ -40,6 +41,7 @@ fn own_choice(initial: Running, target: Running) -> Running
     ensures { λ k. ⌜ view k ≡ ownChoice (view initial) (view target) ⌝ }
 {
     let from = Places::none().numbered(initial, 0);
+    let of = from.of;
     let len = target.count();
     let rules = target.rules;
     let mut kept = [0u16; MOST];
@@ -47,7 +49,7 @@ fn own_choice(initial: Running, target: Running) -> Running
     let mut last = 0;
     for i in 0..len {
         let r = rules[i];
-        let place = from.place(r);
+        let place = place_of(&of, r);
         if last < place {
             kept[count] = r;
             count += 1;
@@ -138,6 +140,8 @@ fn stage_one(initial: Running, target: Running, kept: Running, field: &mut [u8])
 {
     let from = Places::none().numbered(initial, 0);
     let keeps = Places::none().numbered(kept, 0);
+    let of = from.of;
+    let kept_of = keeps.of;
     let len = target.count();
     let rules = target.rules;
     let mut stage = Stage {
@@ -148,7 +152,13 @@ fn stage_one(initial: Running, target: Running, kept: Running, field: &mut [u8])
     };
     for j in 0..len {
         let r = rules[j];
-        stage = take_one(stage, r, from.place(r) != 0, keeps.place(r) != 0, field);
+        stage = take_one(
+            stage,
+            r,
+            place_of(&of, r) != 0,
+            place_of(&kept_of, r) != 0,
+            field,
+        );
     }
     stage
 }
@@ -160,9 +170,10 @@ fn first_above(list: Running, from: usize, to: Places, place: usize) -> usize
 {
     let len = list.count();
     let rules = list.rules;
+    let of = to.of;
     let mut at = from;
     while at < len {
-        if place < to.place(rules[at]) {
+        if place < place_of(&of, rules[at]) {
             return at;
         }
         at += 1;

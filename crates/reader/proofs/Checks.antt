@@ -89,7 +89,7 @@ module _
   pub read-long : length value ≡ sizeOf left
   read-long = ap (λ (field : Field). length (field .value)) read-field ∙ length-part head-bytes (sizeOf left) left (read-whole .1)
 
-  read-right : RightLength tag (length value)
+  pub read-right : RightLength tag (length value)
   read-right = rw (ap (λ (field : Field). field .tag) read-field, read-long) (read-whole .0 .1)
 
   pub read-stands : CanStand f tag

@@ -2,6 +2,7 @@ pub mod SideBySide
 pub mod Policies
 pub mod Scripts
 pub mod Rules
+pub mod Marking
 pub mod Catalogue
 pub mod Given
 pub mod ValuesLent

@@ -1,13 +1,16 @@
 -- From field to field: the reader's answer to one field, what it knows then, and its answer to the file. The idea: the bytes so
 -- far are those of the fields so far, and the reader of the definitions goes through them. Assumes nothing.
-use Prim.Native.Nat.{ℕ, _+_, _-_, _≤_, _<_}
+use Prim.Native.Nat.{ℕ, _+_, _*_, _-_, _≤_, _<_}
 use native.Mathlib.Omega.{arith}
 use mathlib.Core.Path.{_≡_, refl, sym, _∙_, ap, subst}
+use mathlib.Core.Bool.{false}
 use mathlib.Core.List.{List, [], _++_}
-use lib.ListN.{length, drop, length-append, length-drop, drop-of-length-le}
+use lib.ListN.{length, take, drop, length-append, length-drop, drop-of-length-le}
 use lib.Seq.{drop-drop, drop-at}
 use Rattle.deployment.specs.Checked.{Checked, good, bad}
 use Rattle.deployment.specs.Bytes.{part, joined}
+use Rattle.deployment.specs.Values.{ruleOf, known}
+use Rattle.deployment.specs.Catalogue.{catalogueOf}
 use Rattle.deployment.specs.File.{
   Fields,
   Field,
@@ -15,6 +18,7 @@ use Rattle.deployment.specs.File.{
   fieldRead,
   withField,
   atEnd,
+  rule-tag,
   target-tag,
   head-bytes,
   nothing,
@@ -35,6 +39,9 @@ use Rattle.deployment.proofs.Fields.{
   at-keep,
   at-script,
   stage,
+  Next,
+  stands-next,
+  rule-size,
   ValueRight,
   taken,
   taken-right,
@@ -42,6 +49,7 @@ use Rattle.deployment.proofs.Fields.{
 use Rattle.deployment.proofs.ReadBack.{read-through}
 use Rattle.deployment.proofs.Reader.{nothing-readable, refusals}
 use Rattle.reader.specs.Answers.{checking, valueAt, spanFrom, spanIf, keepBytes, layoutOf, shown, fileRead}
+use Rattle.reader.specs.Marks.{Apart}
 use Rattle.reader.specs.Steps.{lastTag, layoutSoFar, progressOf, Begun, More, headShown, stepShown, stepFrom}
 use Rattle.reader.specs.declared.FileRead.the-variants.{Accepted, Refused}
 use Rattle.reader.specs.declared.Layout.{Layout}
@@ -50,7 +58,9 @@ use Rattle.reader.specs.declared.file.Progress.{Progress}
 use Rattle.reader.specs.declared.file.Head.the-variants as head
 use Rattle.reader.specs.declared.Checking.the-variants.{Good, Bad}
 use Rattle.reader.specs.declared.file.Step.the-variants as step
-use Rattle.reader.proofs.Checks.{read-whole, read-field, read-long, read-stands}
+use Rattle.reader.proofs.Places.{rules-alone}
+use Rattle.reader.proofs.Heads.{same-count}
+use Rattle.reader.proofs.Checks.{read-whole, read-field, read-long, read-right, read-stands}
 use Rattle.reader.proofs.OneMore.{more-last, more-of, more-long}
 
 -- The answer to one field, by those to its head and to its value.
@@ -142,6 +152,25 @@ module _ (file : List ℕ) (progress : Progress) (f : Fields) (b : Begun file pr
   unfolding valueAt part
   cut-field tag size value found is =
       rw (is, ← drop-drop) (headed-field f (drop (progress .at) file) stage-now tag size found .0)
+
+  -- it is a rule: the record whose number is the count of the rules so far
+  pub apart-field : (tag size : ℕ) (value : List ℕ) → head.Field tag size ≡ headShown (fieldRead f (drop (progress .at) file))
+      → value ≡ valueAt (record { start = progress .at + 3; size = size }) file
+      → (count : ℕ) → Apart 3 count file → tag ≡ rule-tag → progress .layout .rules < count
+      → known (ruleOf value) (take (progress .layout .rules) (catalogueOf 3 file)) ≡ false
+  unfolding valueAt Apart
+  apart-field tag size value found is count apart e below =
+      let left = drop (progress .at) file in
+      let read = cut-field tag size value found is in
+      let stands : Next stage-now rule-tag = subst (Next stage-now) e (stands-next stage-now tag (read-stands stage-now left tag value read)) in
+      let right : length value ≡ 27 = rule-size e (read-right stage-now left tag value read) in
+      let long : size ≡ 27 =
+      omega (arith, right, read-long stage-now left tag value read, headed-field f left stage-now tag size found .2) in
+      let at-rule : progress .at ≡ progress .layout .rules * 30 =
+      position ∙ rules-alone stage-now stands ∙ ap (λ (n : ℕ). n * 30) (same-count file progress f b) in
+      subst (λ (v : List ℕ). known (ruleOf v) (take (progress .layout .rules) (catalogueOf 3 file)) ≡ false)
+      (ap (λ (at : ℕ). part (at + 3) 27 file) (sym at-rule) ∙ ap (λ (n : ℕ). part (progress .at + 3) n file) (sym long) ∙ sym is)
+      (apart (progress .layout .rules) below)
 
   pub field-inside : (tag size : ℕ) → head.Field tag size ≡ headShown (fieldRead f (drop (progress .at) file))
       → progress .at + 3 + size ≤ length file

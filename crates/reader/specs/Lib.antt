@@ -1,4 +1,5 @@
 -- What the reader answers, over the definitions of the deployment crate.
 pub mod Answers
+pub mod Marks
 pub mod Steps
 pub mod Claims

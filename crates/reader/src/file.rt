@@ -2,27 +2,31 @@
 
 ghost use mathlib.Core.Path.{_≡_};
 ghost use Prim.Native.Nat.{ℕ, _<_, _≤_};
-ghost use mathlib.Core.Bool.{_&&_};
+ghost use mathlib.Core.Bool.{false, _&&_};
 ghost use mathlib.Core.List.{List};
-ghost use lib.ListN.{length, drop};
+ghost use lib.ListN.{length, take, drop};
 ghost use lib.Dec.{eqb, leb};
 ghost use Rattle.policy.specs.Lists.{mem};
 ghost use Rattle.policy.specs.Policy.{most-rules};
+ghost use Rattle.deployment.specs.Values.{ruleOf, known};
+ghost use Rattle.deployment.specs.Catalogue.{catalogueOf};
 ghost use Rattle.deployment.specs.Checked.{good};
 ghost use Rattle.deployment.specs.File.{Fields, rule-tag, fieldRead, lengthFits, withField, atEnd, readToJudge};
 ghost use Rattle.deployment.specs.Properties.{Readable, fieldsBytes};
 ghost use Rattle.reader.specs.Answers.{valueAt, spanFrom, checking, shown, fileRead};
+ghost use Rattle.reader.specs.Marks.{Apart};
 ghost use Rattle.reader.specs.Steps.{tagsAfter, More, Begun, layoutSoFar, progressOf, headShown, stepFrom};
 use super::Checking;
 use super::FileRead;
 use super::Layout;
 use super::Span;
+use super::rule::apart;
+use super::rule::rule_tested;
 use super::values::MOST_RULES;
 use super::values::RULE_BYTES;
 use super::values::keep_checked;
 use super::values::list_fits;
 use super::values::policy_checked;
-use super::values::rule_checked;
 use super::values::script_checked;
 use super::values::script_fits;
 use deployment::Refusal;
@@ -140,7 +144,9 @@ fn field_head(file: &[u8], progress: Progress) -> Head
 }
 
 // The tests of a value, by its tag: 5, 6; or 8, 9; or 10; or 11.
-fn checked(file: &[u8], progress: Progress, tag: u8, bytes: &[u8]) -> Checking
+fn checked(file: &[u8], progress: Progress, differing: usize, tag: u8, bytes: &[u8]) -> Checking
+    requires { ⌜ (tag ≡ rule-tag → progress .layout .rules < differing
+        → known (ruleOf (now bytes)) (take (progress .layout .rules) (catalogueOf 3 (now file))) ≡ false) ⌝ }
     ensures { λ c.
         ⌜ ((f : Fields) → Begun (now (file .entry)) progress f
         → fieldRead f (drop (progress .at) (now (file .entry))) ≡ good (record { tag = tag; value = now (bytes .entry) })
@@ -148,7 +154,7 @@ fn checked(file: &[u8], progress: Progress, tag: u8, bytes: &[u8]) -> Checking
 {
     let layout = progress.layout;
     if tag == RULE_TAG {
-        return rule_checked(file, HEAD_BYTES as u8, layout.rules, bytes);
+        return rule_tested(file, HEAD_BYTES as u8, layout.rules, bytes, differing);
     }
     if tag == INITIAL_TAG || tag == TARGET_TAG {
         return policy_checked(bytes, layout.rules);
@@ -188,8 +194,8 @@ fn placed(layout: Layout, tag: u8, span: Span) -> Layout
 }
 
 // The next field: its head, then its value.
-fn next_field(file: &[u8], progress: Progress) -> Step
-    requires { ⌜ (progress .at < length (now file)) × ((f : Fields) × Begun (now file) progress f) ⌝ }
+fn next_field(file: &[u8], progress: Progress, differing: usize) -> Step
+    requires { ⌜ (progress .at < length (now file)) × ((f : Fields) × Begun (now file) progress f) × Apart 3 differing (now file) ⌝ }
     ensures { λ s. ⌜ ((f : Fields) → Begun (now (file .entry)) progress f → s ≡ stepFrom f (drop (progress .at) (now (file .entry)))) ⌝ }
 {
     let found = field_head(file, progress);
@@ -198,7 +204,7 @@ fn next_field(file: &[u8], progress: Progress) -> Step
         Head::Field(tag, size) => {
             let start = progress.at + HEAD_BYTES;
             let span = Span { start, size };
-            let c = checked(file, progress, tag, value(file, span));
+            let c = checked(file, progress, differing, tag, value(file, span));
             match c {
                 Checking::Bad(why) => Step::Bad(why),
                 Checking::Good => {
@@ -247,9 +253,10 @@ pub fn read(file: &[u8]) -> FileRead
             script: nowhere,
         },
     };
+    let differing = apart(file, HEAD_BYTES as u8);
     while progress.at < file.len() {
         let at = progress.at;
-        let next = next_field(file, progress);
+        let next = next_field(file, progress, differing);
         match next {
             Step::Next(more) => {
                 progress = more;

@@ -5,6 +5,7 @@ use deployment::Why;
 
 pub mod file;
 pub mod lists;
+mod rule;
 pub mod values;
 
 // Whether a value passes its tests.

@@ -2,25 +2,24 @@
 
 ghost use mathlib.Core.Path.{_≡_};
 ghost use mathlib.Core.Option.{some};
-ghost use Prim.Native.Nat.{_+_, _*_, _≤_, min};
-ghost use lib.ListN.{length, take};
-ghost use Rattle.policy.specs.Lists.{same, occurs};
+ghost use Prim.Native.Nat.{min};
+ghost use lib.ListN.{take};
+ghost use Rattle.policy.specs.Lists.{occurs};
 ghost use Rattle.running.specs.Running.{view};
 ghost use Rattle.deployment.specs.Bytes.{number, part};
-ghost use Rattle.deployment.specs.Values.{ruleOf, ruleFits, sameRule, known, rangeAt, rising, numbersOf, listFits, scriptFits, everyCommand, commandChunks};
+ghost use Rattle.deployment.specs.Values.{numbersOf, listFits, scriptFits, everyCommand, commandChunks};
 ghost use Rattle.deployment.specs.Catalogue.{catalogueOf};
-ghost use Rattle.deployment.specs.Contents.{ruleRead};
 ghost use Rattle.deployment.specs.FieldValues.{catalogueValue, policyValue, keepValue, scriptValue};
 ghost use Rattle.reader.specs.Answers.{checking, there, ruleValue};
 use super::Checking;
+use super::rule::apart;
+use super::rule::rule_tested;
 use deployment::Decoded;
 use deployment::Why;
 use deployment::command_at;
 use deployment::commands;
-use deployment::four;
 use deployment::listed;
 use deployment::number_at;
-use deployment::two;
 use policy::Command;
 use running::Naming;
 use running::Running;
@@ -151,96 +150,11 @@ pub fn script_checked(value: &[u8]) -> Checking
     Checking::Good
 }
 
-// 5: "a low above its high" of a range, by its width in bytes.
-fn rises_two(rule: &[u8], at: usize) -> bool
-    requires { ⌜ at + 4 ≤ length (now rule) ⌝ }
-    ensures { λ r. ⌜ r ≡ rising (rangeAt at 2 (now (rule .entry))) ⌝ }
-{
-    two(rule[at], rule[at + 1]) <= two(rule[at + 2], rule[at + 3])
-}
-
-fn rises_four(rule: &[u8], at: usize) -> bool
-    requires { ⌜ at + 8 ≤ length (now rule) ⌝ }
-    ensures { λ r. ⌜ r ≡ rising (rangeAt at 4 (now (rule .entry))) ⌝ }
-{
-    four(rule[at], rule[at + 1], rule[at + 2], rule[at + 3])
-        <= four(rule[at + 4], rule[at + 5], rule[at + 6], rule[at + 7])
-}
-
-// 5: "action above 1, or a low above its high"
-fn rule_fits(rule: &[u8]) -> bool
-    requires { ⌜ length (now rule) ≡ 27 ⌝ }
-    ensures { λ r. ⌜ r ≡ ruleFits (now (rule .entry)) ⌝ }
-{
-    rule[0] <= 1
-        && rule[1] <= rule[2]
-        && rises_four(rule, 3)
-        && rises_two(rule, 11)
-        && rises_four(rule, 15)
-        && rises_two(rule, 23)
-}
-
-// Whether two parts have the same bytes; left at the first that differs.
-fn same_bytes(a: &[u8], b: &[u8]) -> bool
-    ensures { λ r. ⌜ r ≡ same (now (a .entry)) (now (b .entry)) ⌝ }
-{
-    if a.len() != b.len() {
-        return false;
-    }
-    let mut k = 0;
-    while k < a.len() {
-        if a[k] != b[k] {
-            return false;
-        }
-        k += 1;
-    }
-    true
-}
-
-// "equal in all fields and action"
-fn same_rule(a: &[u8], b: &[u8]) -> bool
-    requires { ⌜ (length (now a) ≡ 27) × (length (now b) ≡ 27) ⌝ }
-    ensures { λ r. ⌜ r ≡ sameRule (ruleOf (now (a .entry))) (ruleOf (now (b .entry))) ⌝ }
-{
-    if (a[0] == 1) != (b[0] == 1) {
-        return false;
-    }
-    same_bytes(&a[1..], &b[1..])
-}
-
-// 6: whether one of the first `count` rules equals the given one; `skip` bytes stand before each.
-fn is_known(rules: &[u8], skip: u8, count: usize, rule: &[u8]) -> bool
-    requires { ⌜ (length (now rule) ≡ 27) × (count * (skip + 27) ≤ length (now rules)) ⌝ }
-    ensures { λ r. ⌜ r ≡ known (ruleOf (now (rule .entry))) (take count (catalogueOf skip (now (rules .entry)))) ⌝ }
-{
-    let step = skip as usize + RULE_BYTES;
-    let mut k = 0;
-    while k < count {
-        let at = k * step + skip as usize;
-        if same_rule(&rules[at..at + RULE_BYTES], rule) {
-            return true;
-        }
-        k += 1;
-    }
-    false
-}
-
 // A rule, after the first `count` of the catalogue: 4, 5, 6. Where the bytes hold fewer, it is compared with all of them.
 pub fn rule_checked(rules: &[u8], skip: u8, count: usize, rule: &[u8]) -> Checking
     ensures { λ c. ⌜ c ≡ checking (ruleValue (take count (catalogueOf skip (now (rules .entry)))) (now (rule .entry))) ⌝ }
 {
-    if rule.len() != RULE_BYTES {
-        return Checking::Bad(Why::Length);
-    }
-    if !rule_fits(rule) {
-        return Checking::Bad(Why::Bounds);
-    }
-    let there = rules.len() / (skip as usize + RULE_BYTES);
-    let top = if count < there { count } else { there };
-    if is_known(rules, skip, top, rule) {
-        return Checking::Bad(Why::Equal);
-    }
-    Checking::Good
+    rule_tested(rules, skip, count, rule, 0)
 }
 
 // The rules of a field value: 4, 7, then 5 and 6 rule by rule.
@@ -254,10 +168,11 @@ pub fn catalogue_checked(rules: &[u8]) -> Checking
         return Checking::Bad(Why::TooMany);
     }
     let count = rules.len() / RULE_BYTES;
+    let differing = apart(rules, 0);
     let mut k = 0;
     while k < count {
         let at = k * RULE_BYTES;
-        let c = rule_checked(rules, 0, k, &rules[at..at + RULE_BYTES]);
+        let c = rule_tested(rules, 0, k, &rules[at..at + RULE_BYTES], differing);
         match c {
             Checking::Good => {}
             Checking::Bad(why) => {

@@ -21,6 +21,7 @@ use Rattle.running.proofs.Places.none.Reads as none
 use Rattle.running.proofs.Places.place.Reads as place
 use Rattle.running.proofs.Places.cleared.Reads as cleared
 use Rattle.running.proofs.Places.numbered.Reads as numbered
+use Rattle.running.proofs.place_of.Reads as place-of
 
 -- equal slots make equal arrays
 same-places : (r s : Places) → r .of ≡ s .of → r ≡ s
@@ -61,3 +62,6 @@ one-cleared κ a r s e f p q = same-places r s (p ∙ sym q)
 
 pub one-numbered : (κ : _) (a : _) (r s : Places) (e f : _) → numbered.Post κ a r e → numbered.Post κ a s f → r ≡ s
 one-numbered κ a r s e f p q = same-places r s (p ∙ sym q)
+
+pub one-place-of : (κ : _) (a : _) (r s : ℕ) (e f : _) → place-of.Post κ a r e → place-of.Post κ a s f → r ≡ s
+one-place-of κ a r s e f p q = p ∙ sym q

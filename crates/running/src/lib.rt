@@ -278,6 +278,17 @@ impl Places {
     }
 }
 
+// The place of rule r in the list that a side array speaks of, the array lent; 0 for a number that it doesn't have.
+pub fn place_of(places: &[u16], r: u16) -> usize
+    ensures { λ n. ⌜ n ≡ getD (now (places .entry)) r 0 ⌝ }
+{
+    let at = r as usize;
+    if places.len() <= at {
+        return 0;
+    }
+    places[at] as usize
+}
+
 // Whether one of the first `len` rules has a number of `size` or more.
 fn outside(rules: [u16; 1024], len: usize, size: usize) -> bool
     requires { ⌜ len ≤ 1024 ⌝ }

@@ -15,21 +15,21 @@ use Rattle.planner.proofs.insert_delete_move.first_above.Statement.{sta
 use Rattle.planner.proofs.insert_delete_move.first_above.Tie as tie
 
 abbrev Inv-loop : tie.InvT-loop
-Inv-loop from to place len rules at₀ at = (at ≤ len) × Seeking (λ x. ltb place (getD (to .of) x 0)) (take len rules) from at
+Inv-loop from place len rules of at₀ at = (at ≤ len) × Seeking (λ x. ltb place (getD of x 0)) (take len rules) from at
 
 abbrev μ-loop : tie.MeasureT-loop
-μ-loop from to place len rules at₀ at = len - at
+μ-loop from place len rules of at₀ at = len - at
 
 count-requires : tie.Need-count-requires Inv-loop μ-loop
 count-requires c κs = search needs
 
 loop-holds : tie.Need-loop-holds Inv-loop μ-loop
-loop-holds c = (omega (arith, c .before .count .ensures), refl)
+loop-holds c = (omega (arith, c .before .before .count .ensures), refl)
 
 -- an index of the list is a slot of its array
 below : (c : tie.In-loop Inv-loop μ-loop) → c .before .loop .at < 1024
 below c =
-    let counted = c .before .before .before in
+    let counted = c .before .before .before .before in
     let start = counted .before in
     omega (
       arith,
@@ -41,50 +41,56 @@ below c =
 
 -- the invariant of the list that is shown
 sought : (c : tie.At-loop Inv-loop μ-loop)
-    → Seeking (λ x. ltb (c .before .before .before .args .place) (getD (c .before .before .before .args .to .of) x 0)) (view (c .before .before .before .args .list)) (c .before .before .before .args .from) (c .loop .at)
+    → let args = c .before .before .before .before .args in
+    Seeking (λ x. ltb (args .place) (getD (args .to .of) x 0)) (view (args .list)) (args .from) (c .loop .at)
 sought c =
-    let counted = c .before .before in
+    let counted = c .before .before .before in
     rw (view-count (counted .before .args .list) (counted .count .result) (counted .count .ensures)) at (c .loop .inv .1)
 
-shown : (c : tie.In-loop Inv-loop μ-loop) → c .before .loop .at < length (view (c .before .before .before .before .args .list))
-shown c = omega (arith, c .loop-test .taken, c .before .before .before .count .ensures)
+shown : (c : tie.In-loop Inv-loop μ-loop) → c .before .loop .at < length (view (c .before .before .before .before .before .args .list))
+shown c = omega (arith, c .loop-test .taken, c .before .before .before .before .count .ensures)
 
-mul-place : tie.Need-mul-place Inv-loop μ-loop
-mul-place c = record { fits = omega (arith, below c) }
+slice-aggregate-place-of : tie.Need-slice-aggregate-place-of Inv-loop μ-loop
+slice-aggregate-place-of c = search needs
 
-array-read-place : tie.Need-array-read-place Inv-loop μ-loop
-array-read-place c = below c
+mul-place-of : tie.Need-mul-place-of Inv-loop μ-loop
+mul-place-of c = record { fits = omega (arith, below (c .before)) }
 
-place-requires : tie.Need-place-requires Inv-loop μ-loop
-place-requires c κs = search needs
+array-read-place-of : tie.Need-array-read-place-of Inv-loop μ-loop
+array-read-place-of c = below (c .before)
+
+place-of-requires : tie.Need-place-of-requires Inv-loop μ-loop
+place-of-requires c κs = search needs
 
 -- the place that is looked up is that of the rule at that index of the list that is shown
-looked-up : (c : tie.After-place Inv-loop μ-loop)
-    → c .place .result
-    ≡ getD (c .before .before .before .before .before .args .to .of) (getD (view (c .before .before .before .before .before .args .list)) (c .before .before .loop .at) 0) 0
+looked-up : (c : tie.After-place-of Inv-loop μ-loop)
+    → let at = c .before .before .before in
+    let args = at .before .before .before .before .args in
+    c .place-of .result ≡ getD (args .to .of) (getD (view (args .list)) (at .loop .at) 0) 0
 looked-up c =
-    let args = c .before .before .before .before .before .args in
-    c .place .ensures ∙ ap (λ (r : ℕ). getD (args .to .of) r 0) (rule-shown (args .list) (c .before .before .loop .at) (shown (c .before)))
+    let at = c .before .before .before in
+    let args = at .before .before .before .before .args in
+    c .place-of .ensures ∙ ap (λ (r : ℕ). getD (args .to .of) r 0) (rule-shown (args .list) (at .loop .at) (shown (c .before .before)))
 
 returns : tie.Need-returns Inv-loop μ-loop
 returns c =
-    let turn = c .before .before in
+    let turn = c .before .before .before in
     let at = turn .before in
-    let args = at .before .before .before .args in
+    let args = at .before .before .before .before .args in
     seek-here (λ x. ltb (args .place) (getD (args .to .of) x 0)) (view (args .list)) (args .from) (at .loop .at) (sought at) (shown turn)
     (lt-ltb _ _ (rw (looked-up (c .before)) at (c .if1 .taken)))
 
 add-at : tie.Need-add-at Inv-loop μ-loop
-add-at c = record { fits = omega (arith, below (c .before .before)) }
+add-at c = record { fits = omega (arith, below (c .before .before .before)) }
 
 loop-less : tie.Need-loop-less Inv-loop μ-loop
 loop-less c = omega arith
 
 loop-again : tie.Need-loop-again Inv-loop μ-loop
 loop-again c =
-    let turn = c .before .before in
+    let turn = c .before .before .before in
     let at = turn .before in
-    let counted = at .before .before in
+    let counted = at .before .before .before in
     let args = counted .before .args in (
       omega arith,
       rw (view-count (args .list) (counted .count .result) (counted .count .ensures))
@@ -94,7 +100,7 @@ loop-again c =
 
 returns-2 : tie.Need-returns-2 Inv-loop μ-loop
 returns-2 c =
-    let counted = c .before .before .before in
+    let counted = c .before .before .before .before in
     let args = counted .before .args in
     seek-ends (λ x. ltb (args .place) (getD (args .to .of) x 0)) (view (args .list)) (args .from) (c .before .loop .at) (sought (c .before))
     (omega (arith, c .loop-test .left, counted .count .ensures))
@@ -107,9 +113,10 @@ first-above-spec =
     μ-loop
     count-requires
     loop-holds
-    mul-place
-    array-read-place
-    place-requires
+    slice-aggregate-place-of
+    mul-place-of
+    array-read-place-of
+    place-of-requires
     returns
     add-at
     loop-less

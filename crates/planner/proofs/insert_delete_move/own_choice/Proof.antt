@@ -20,13 +20,13 @@ use Rattle.planner.proofs.insert_delete_move.own_choice.Statement.{stat
 use Rattle.planner.proofs.insert_delete_move.own_choice.Tie as tie
 
 abbrev Inv-loop : tie.InvT-loop
-Inv-loop from len rules kept₀ count₀ last₀ i₀ kept count last i =
+Inv-loop of len rules kept₀ count₀ last₀ i₀ kept count last i =
     (length kept ≡ 1024)
     × (count ≤ i)
-    × ((initial : List ℕ) → Says (from .of) initial → Distinct initial → Chosen initial (take len rules) kept count last i)
+    × ((initial : List ℕ) → Says of initial → Distinct initial → Chosen initial (take len rules) kept count last i)
 
 abbrev μ-loop : tie.MeasureT-loop
-μ-loop from len rules kept₀ count₀ last₀ i₀ kept count last i = len - i
+μ-loop of len rules kept₀ count₀ last₀ i₀ kept count last i = len - i
 
 none-requires : tie.Need-none-requires Inv-loop μ-loop
 none-requires c κs = search needs
@@ -44,7 +44,7 @@ loop-holds c = (refl, search needs, λ initial says d. refl)
 below : (c : tie.In-loop Inv-loop μ-loop) → c .before .loop .i < 1024
 below c =
     let counted = c .before .before .before in
-    let start = counted .before .before .before in
+    let start = counted .before .before .before .before in
     omega (
       arith,
       c .loop-test .taken,
@@ -59,44 +59,51 @@ mul-r c = record { fits = omega (arith, below c) }
 array-read-r : tie.Need-array-read-r Inv-loop μ-loop
 array-read-r c = below c
 
-place-requires : tie.Need-place-requires Inv-loop μ-loop
-place-requires c κs = search needs
+slice-aggregate-place-of : tie.Need-slice-aggregate-place-of Inv-loop μ-loop
+slice-aggregate-place-of c = search needs
+
+place-of-requires : tie.Need-place-of-requires Inv-loop μ-loop
+place-of-requires c κs = search needs
 
 mul-kept : tie.Need-mul-kept Inv-loop μ-loop
-mul-kept c = record { fits = omega (arith, below (c .before .before), c .before .before .before .loop .inv .1) }
+mul-kept c = record { fits = omega (arith, below (c .before .before .before), c .before .before .before .before .loop .inv .1) }
 
 array-write-kept : tie.Need-array-write-kept Inv-loop μ-loop
-array-write-kept c = omega (arith, below (c .before .before), c .before .before .before .loop .inv .1)
+array-write-kept c = omega (arith, below (c .before .before .before), c .before .before .before .before .loop .inv .1)
 
 add-count : tie.Need-add-count Inv-loop μ-loop
-add-count c = record { fits = omega (arith, below (c .before .before), c .before .before .before .loop .inv .1) }
+add-count c = record { fits = omega (arith, below (c .before .before .before), c .before .before .before .before .loop .inv .1) }
 
 add-i : tie.Need-add-i Inv-loop μ-loop
-add-i c = record { fits = omega (arith, below (c .before .before)) }
+add-i c = record { fits = omega (arith, below (c .before .before .before)) }
 
 loop-less : tie.Need-loop-less Inv-loop μ-loop
 loop-less c = omega arith
 
 -- the place that is looked up for the next rule of the target is the rule's place in the initial policy
-looked-up : (c : tie.After-place Inv-loop μ-loop) (initial : List ℕ)
-    → Says (c .before .before .before .before .before .numbered .result .of) initial
-    → c .place .result ≡ placeIn (getD (view (c .before .before .before .before .before .before .before .args .target)) (c .before .before .loop .i) 0) initial
+looked-up : (c : tie.After-place-of Inv-loop μ-loop) (initial : List ℕ)
+    → let at = c .before .before .before in
+    let numbered = at .before .before .before .before in
+    Says (numbered .numbered .result .of) initial
+    → c .place-of .result ≡ placeIn (getD (view (numbered .before .before .args .target)) (at .loop .i) 0) initial
 looked-up c initial says =
-    let counted = c .before .before .before .before in
-    let start = counted .before .before .before in
+    let at = c .before .before .before in
+    let counted = at .before .before in
+    let numbered = counted .before .before in
+    let start = numbered .before .before in
     let target = start .args .target in
-    let i = c .before .before .loop .i in
-    let more : i < length (view target) = omega (arith, c .before .loop-test .taken, counted .count .ensures) in
-    c .place .ensures
-    ∙ ap (λ (r : ℕ). getD (counted .before .numbered .result .of) r 0) (rule-shown target i more)
+    let i = at .loop .i in
+    let more : i < length (view target) = omega (arith, c .before .before .loop-test .taken, counted .count .ensures) in
+    c .place-of .ensures
+    ∙ ap (λ (r : ℕ). getD (numbered .numbered .result .of) r 0) (rule-shown target i more)
     ∙ says .1 (getD (view target) i 0) (start .pre .1 .inside (getD (view target) i 0) (place-in 0 (view target) i more))
 
 loop-again : tie.Need-loop-again Inv-loop μ-loop
 loop-again c =
-    let turn = c .before .before in
+    let turn = c .before .before .before in
     let now = turn .before .loop in
     let counted = turn .before .before .before in
-    let target = counted .before .before .before .args .target in
+    let target = counted .before .before .before .before .args .target in
     let len = counted .count .result in
     let seen : take len (target .rules) ≡ view target = view-count target len (counted .count .ensures) in
     let more : now .i < length (view target) = omega (arith, turn .loop-test .taken, counted .count .ensures) in
@@ -123,13 +130,14 @@ unfolding view
 returns c =
     let now = c .before .loop in
     let counted = c .before .before .before in
-    let start = counted .before .before .before in
+    let numbered = counted .before .before in
+    let start = numbered .before .before in
     let initial = view (start .args .initial) in
     let target = start .args .target in
     let len = counted .count .result in
     let seen : take len (target .rules) ≡ view target = view-count target len (counted .count .ensures) in
-    let says : Says (counted .before .numbered .result .of) initial =
-    rw (counted .before .numbered .ensures, counted .before .before .none .ensures) (says-numbered initial (start .pre .0 .distinct)) in
+    let says : Says (numbered .numbered .result .of) initial =
+    rw (numbered .numbered .ensures, numbered .before .none .ensures) (says-numbered initial (start .pre .0 .distinct)) in
     choice-ends initial (view target) (now .kept) (now .count) (now .last) (now .i)
     (rw seen at (now .inv .2 initial says (start .pre .0 .distinct))) (omega (arith, c .loop-test .left, counted .count .ensures))
 
@@ -145,7 +153,8 @@ own-choice-spec =
     loop-holds
     mul-r
     array-read-r
-    place-requires
+    slice-aggregate-place-of
+    place-of-requires
     mul-kept
     array-write-kept
     add-count

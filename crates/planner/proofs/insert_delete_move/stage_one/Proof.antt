@@ -22,12 +22,12 @@ use Rattle.planner.proofs.insert_delete_move.stage_one.Statement.{state
 use Rattle.planner.proofs.insert_delete_move.stage_one.Tie as tie
 
 abbrev Inv-loop : tie.InvT-loop
-Inv-loop field₀ from keeps len rules stage₀ j₀ field stage j =
-    (initial kept : List ℕ) → view (stage₀ .list) ≡ initial → Says (from .of) initial → Says (keeps .of) kept
+Inv-loop field₀ of kept-of len rules stage₀ j₀ field stage j =
+    (initial kept : List ℕ) → view (stage₀ .list) ≡ initial → Says of initial → Says kept-of kept
     → Given 1024 initial (take len rules) kept → Turn initial (take len rules) kept field₀ stage field j
 
 abbrev μ-loop : tie.MeasureT-loop
-μ-loop field₀ from keeps len rules stage₀ j₀ field stage j = len - j
+μ-loop field₀ of kept-of len rules stage₀ j₀ field stage j = len - j
 
 none-requires : tie.Need-none-requires Inv-loop μ-loop
 none-requires c κs = search needs
@@ -46,15 +46,15 @@ count-requires c κs = search needs
 
 loop-holds : tie.Need-loop-holds Inv-loop μ-loop
 loop-holds c =
-    let start = c .before .before .before .before .before .before .before in
+    let start = c .before .before .before .before .before .before .before .before .before in
     λ initial kept is says keeps given. turn-first initial _ kept given _ (start .args .initial) _ is refl marks-none (start .pre .3)
 
 -- the two policies and the rules to keep
 given : (c : tie.After-count Inv-loop μ-loop)
-    → Given 1024 (view (c .before .before .before .before .before .before .args .initial)) (view (c .before .before .before .before .before .before .args .target))
-    (view (c .before .before .before .before .before .before .args .kept))
+    → Given 1024 (view (c .before .before .before .before .before .before .before .before .args .initial)) (view (c .before .before .before .before .before .before .before .before .args .target))
+    (view (c .before .before .before .before .before .before .before .before .args .kept))
 given c =
-    let accepted = c .before .before .before .before .before .before .pre .0 in
+    let accepted = c .before .before .before .before .before .before .before .before .pre .0 in
     record {
       old = accepted .first;
       new = accepted .last;
@@ -64,27 +64,25 @@ given c =
 
 -- the side arrays are right for the initial policy and for the rules to keep
 says-initial : (c : tie.After-count Inv-loop μ-loop)
-    → Says (c .before .before .before .numbered .result .of) (view (c .before .before .before .before .before .before .args .initial))
+    → Says (c .before .before .before .before .before .numbered .result .of) (view (c .before .before .before .before .before .before .before .before .args .initial))
 says-initial c =
-    let numbered = c .before .before .before in
+    let numbered = c .before .before .before .before .before in
     rw (numbered .numbered .ensures, numbered .before .none .ensures) (says-numbered _ (given c .old .distinct))
 
 says-kept : (c : tie.After-count Inv-loop μ-loop)
-    → Says (c .before .numbered2 .result .of) (view (c .before .before .before .before .before .before .args .kept))
+    → Says (c .before .before .before .numbered2 .result .of) (view (c .before .before .before .before .before .before .before .before .args .kept))
 says-kept c =
-    let numbered = c .before in
+    let numbered = c .before .before .before in
     rw (numbered .numbered2 .ensures, numbered .before .none2 .ensures)
     (says-numbered _ (sublist-distinct (given c .kept-initial) (given c .old .distinct)))
 
 -- the invariant, of the policies that are planned for
 turn : (c : tie.At-loop Inv-loop μ-loop)
-    → Turn (view (c .before .before .before .before .before .before .before .before .args .initial))
-    (view (c .before .before .before .before .before .before .before .before .args .target))
-    (view (c .before .before .before .before .before .before .before .before .args .kept))
-    (c .before .before .before .before .before .before .before .before .args .field .now) (c .loop .stage) (c .loop .field) (c .loop .j)
+    → let a = c .before .before .before .before .before .before .before .before .before .before .args in
+    Turn (view (a .initial)) (view (a .target)) (view (a .kept)) (a .field .now) (c .loop .stage) (c .loop .field) (c .loop .j)
 turn c =
     let counted = c .before .before in
-    let start = counted .before .before .before .before .before .before in
+    let start = counted .before .before .before .before .before .before .before .before in
     let a = start .args in
     let shown : take (counted .count .result) (a .target .rules) ≡ view (a .target) = view-count (a .target) _ (counted .count .ensures) in
     rw shown at (c .loop .inv (view (a .initial)) (view (a .kept)) refl (says-initial counted) (says-kept counted) (rw shown (given counted)))
@@ -93,7 +91,7 @@ turn c =
 below : (c : tie.In-loop Inv-loop μ-loop) → c .before .loop .j < 512
 below c =
     let counted = c .before .before .before in
-    let start = counted .before .before .before .before .before .before in
+    let start = counted .before .before .before .before .before .before .before .before in
     omega (arith, c .loop-test .taken, counted .count .ensures, start .pre .2)
 
 mul-r : tie.Need-mul-r Inv-loop μ-loop
@@ -102,58 +100,64 @@ mul-r c = record { fits = omega (arith, below c) }
 array-read-r : tie.Need-array-read-r Inv-loop μ-loop
 array-read-r c = omega (arith, below c)
 
-place-requires : tie.Need-place-requires Inv-loop μ-loop
-place-requires c κs = search needs
+slice-aggregate-place-of : tie.Need-slice-aggregate-place-of Inv-loop μ-loop
+slice-aggregate-place-of c = search needs
 
-place-requires-2 : tie.Need-place-requires-2 Inv-loop μ-loop
-place-requires-2 c κs = search needs
+place-of-requires : tie.Need-place-of-requires Inv-loop μ-loop
+place-of-requires c κs = search needs
+
+slice-aggregate-place-of-2 : tie.Need-slice-aggregate-place-of-2 Inv-loop μ-loop
+slice-aggregate-place-of-2 c = search needs
+
+place-of-requires-2 : tie.Need-place-of-requires-2 Inv-loop μ-loop
+place-of-requires-2 c κs = search needs
 
 -- the next rule of the target
 small : (c : tie.In-loop Inv-loop μ-loop)
-    → getD (c .before .before .before .before .before .before .before .before .before .args .target .rules) (c .before .loop .j) 0 < 1024
+    → getD (c .before .before .before .before .before .before .before .before .before .before .before .args .target .rules) (c .before .loop .j) 0 < 1024
 small c =
     let counted = c .before .before .before in
-    let target = counted .before .before .before .before .before .before .args .target in
+    let target = counted .before .before .before .before .before .before .before .before .args .target in
     let more : c .before .loop .j < length (view target) = omega (arith, c .loop-test .taken, counted .count .ensures) in
     rw (rule-shown target (c .before .loop .j) more) (given counted .new .inside _ (place-in 0 (view target) (c .before .loop .j) more))
 
 take-one-requires : tie.Need-take-one-requires Inv-loop μ-loop
 take-one-requires c κs =
-    let turns = c .before .before .before in
+    let turns = c .before .before .before .before .before in
     let now = turns .before in
     let counted = now .before .before in
-    let start = counted .before .before .before .before .before .before in
+    let start = counted .before .before .before .before .before .before .before .before in
     let here = turn now in
     let size = turn-length _ _ _ (given counted) _ _ _ _ here in
     (size .0, omega (arith, below turns, size .1, start .pre .1), small turns, omega (arith, below turns, here .counted, here .few), here .sent .long)
 
 add-j : tie.Need-add-j Inv-loop μ-loop
-add-j c = record { fits = omega (arith, below (c .before .before .before .before .before .before)) }
+add-j c = record { fits = omega (arith, below (c .before .before .before .before .before .before .before .before)) }
 
 loop-less : tie.Need-loop-less Inv-loop μ-loop
 loop-less c = omega arith
 
 loop-again : tie.Need-loop-again Inv-loop μ-loop
 loop-again c =
-    let turns = c .before .before .before .before .before .before in
+    let turns = c .before .before .before .before .before .before .before .before in
     let now = turns .before .loop in
     let counted = turns .before .before .before in
-    let target = counted .before .before .before .before .before .before .args .target in
+    let target = counted .before .before .before .before .before .before .before .before .args .target in
     let len = counted .count .result in
     let r = getD (target .rules) (now .j) 0 in
     let more : now .j < length (take len (target .rules)) =
     rw (view-count target len (counted .count .ensures)) (omega (arith, turns .loop-test .taken, counted .count .ensures)) in
-    let old = c .before .before .before .before .before in
+    let old = c .before .before .before .before .before .before in
     let kept = c .before .before .before .before in
     λ initial keep is says keeps given.
     turn-more initial (take len (target .rules)) keep given _ (now .stage) (now .field) (now .j) (now .inv initial keep is says keeps given)
     r _ _ (c .before .before .take-one .result) _ more (sym (getD-take len (target .rules) (now .j) 0 (turns .loop-test .taken)))
-    (place-tells (counted .before .before .before .numbered .result .of) initial r (old .place .result) says (small turns) (old .place .ensures))
-    (place-tells (counted .before .numbered2 .result .of) keep r (kept .place2 .result) keeps (small turns) (kept .place2 .ensures))
+    (place-tells (counted .before .before .before .before .before .numbered .result .of) initial r (old .place-of .result) says (small turns) (old .place-of .ensures))
+    (place-tells (counted .before .before .before .numbered2 .result .of) keep r (kept .place-of2 .result) keeps (small turns) (kept .place-of2 .ensures))
     (c .before .before .take-one .ensures)
 
 same-length : tie.Need-same-length Inv-loop μ-loop
-same-length c = turn (c .before) .sent .long ∙ sym (c .before .before .before .before .before .before .before .before .before .pre .3)
+same-length c = turn (c .before) .sent .long ∙ sym (c .before .before .before .before .before .before .before .before .before .before .before .pre .3)
 
 returns : tie.Need-returns Inv-loop μ-loop
 returns c =
@@ -174,8 +178,10 @@ stage-one-spec =
     loop-holds
     mul-r
     array-read-r
-    place-requires
-    place-requires-2
+    slice-aggregate-place-of
+    place-of-requires
+    slice-aggregate-place-of-2
+    place-of-requires-2
     take-one-requires
     add-j
     loop-less

@@ -8,17 +8,17 @@ use borrow.Author.Needs.{needs}
 use Rattle.reader.proofs.file.checked.Statement.{statement}
 use Rattle.reader.proofs.file.checked.Tie as tie
 
-cast-rule-checked : tie.Need-cast-rule-checked
-cast-rule-checked c = search needs
+cast-rule-tested : tie.Need-cast-rule-tested
+cast-rule-tested c = search needs
 
-rule-checked-requires : tie.Need-rule-checked-requires
-rule-checked-requires c κs = search needs
+rule-tested-requires : tie.Need-rule-tested-requires
+rule-tested-requires c κs = c .before .before .before .before .pre (c .if1 .taken)
 
 returns : tie.Need-returns
 returns c =
     let a = c .before .before .before .before .before .args in
     λ f begun read.
-    c .rule-checked .ensures
+    c .rule-tested .ensures
     ∙ checked-rule (a .file .now) (a .progress) f begun (a .tag) (a .bytes .now) read (c .before .if1 .taken)
 
 policy-checked-requires : tie.Need-policy-checked-requires
@@ -65,8 +65,8 @@ pub checked-spec : {M : Type 1} → statement M
 checked-spec =
     tie.close
     (tie.spec
-    cast-rule-checked
-    rule-checked-requires
+    cast-rule-tested
+    rule-tested-requires
     returns
     policy-checked-requires
     returns-2

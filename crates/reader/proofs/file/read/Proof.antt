@@ -18,27 +18,33 @@ use Rattle.reader.proofs.file.read.Statement.{statement}
 use Rattle.reader.proofs.file.read.Tie as tie
 
 abbrev Inv-loop : tie.InvT-loop
-Inv-loop file progress₀ progress = (f : Fields) × Begun file progress f
+Inv-loop file progress₀ differing progress = (f : Fields) × Begun file progress f
 
 abbrev μ-loop : tie.MeasureT-loop
-μ-loop file progress₀ progress = length file - progress .at
+μ-loop file progress₀ differing progress = length file - progress .at
+
+cast-apart : tie.Need-cast-apart Inv-loop μ-loop
+cast-apart c = search needs
+
+apart-requires : tie.Need-apart-requires Inv-loop μ-loop
+apart-requires c κs = search needs
 
 loop-holds : tie.Need-loop-holds Inv-loop μ-loop
 unfolding nothing progressOf lastTag layoutSoFar keepBytes commandBytes spanIf absent endOf there fieldsBytes ifThere joined
-loop-holds c = (nothing, begun-at-start (c .before .args .file .now))
+loop-holds c = (nothing, begun-at-start (c .before .before .args .file .now))
 
 next-field-requires : tie.Need-next-field-requires Inv-loop μ-loop
-next-field-requires c κs = (c .if1 .taken, c .before .before .loop .inv)
+next-field-requires c κs = (c .if1 .taken, c .before .before .loop .inv, c .before .before .before .apart .ensures)
 
 enum-known-next : tie.Need-enum-known-next Inv-loop μ-loop
 enum-known-next c = search needs
 
 -- where a field was read: the file, that it is bytes, and what was known before
 abbrev file : tie.After-next-field Inv-loop μ-loop → List ℕ
-file c = c .before .before .before .before .before .args .file .now
+file c = c .before .before .before .before .before .before .args .file .now
 
 bytes : (c : tie.After-next-field Inv-loop μ-loop) → AreBytes (file c)
-bytes c = elements-are-bytes (file c) (λ i. omega (arith, c .before .before .before .before .shared-slice-known .given i))
+bytes c = elements-are-bytes (file c) (λ i. omega (arith, c .before .before .before .before .before .shared-slice-known .given i))
 
 abbrev before : tie.After-next-field Inv-loop μ-loop → Progress
 before c = c .before .before .before .loop .progress
@@ -78,7 +84,7 @@ returns-2 c =
     let loop = c .before .before .before .loop in
     let inv = loop .inv in
     c .ended .ensures (inv .0) (inv .1 .readable) (inv .1 .known)
-    ∙ ended-right (c .before .before .before .before .before .args .file .now) (loop .progress) (inv .0) (inv .1) (c .before .if1 .left)
+    ∙ ended-right (c .before .before .before .before .before .before .args .file .now) (loop .progress) (inv .0) (inv .1) (c .before .if1 .left)
 
 pub read-spec : {M : Type 1} → statement M
 read-spec =
@@ -86,6 +92,8 @@ read-spec =
     (tie.spec
     Inv-loop
     μ-loop
+    cast-apart
+    apart-requires
     loop-holds
     next-field-requires
     enum-known-next

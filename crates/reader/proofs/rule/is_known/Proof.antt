@@ -10,8 +10,8 @@ use Rattle.deployment.specs.Catalogue.{catalogueOf}
 use Rattle.deployment.proofs.Bytes.{length-part}
 use Rattle.deployment.proofs.Records.{part-between}
 use Rattle.reader.proofs.Rules.{known-here, known-later, known-nowhere, first-count, first-fits, first-at}
-use Rattle.reader.proofs.values.is_known.Statement.{statement}
-use Rattle.reader.proofs.values.is_known.Tie as tie
+use Rattle.reader.proofs.rule.is_known.Statement.{statement}
+use Rattle.reader.proofs.rule.is_known.Tie as tie
 
 abbrev Inv-loop : tie.InvT-loop
 Inv-loop rules skip count rule step k₀ k =

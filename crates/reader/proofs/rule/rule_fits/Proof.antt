@@ -11,8 +11,8 @@ use Rattle.deployment.specs.Values.{rangeAt, rising, ruleFits}
 use Rattle.deployment.proofs.Records.{first-byte}
 use Rattle.reader.proofs.Rules.{rising-protocol}
 use borrow.Author.Needs.{needs}
-use Rattle.reader.proofs.values.rule_fits.Statement.{statement}
-use Rattle.reader.proofs.values.rule_fits.Tie as tie
+use Rattle.reader.proofs.rule.rule_fits.Statement.{statement}
+use Rattle.reader.proofs.rule.rule_fits.Tie as tie
 
 shared-slice-read-if1 : tie.Need-shared-slice-read-if1
 shared-slice-read-if1 c = search needs

@@ -13,8 +13,8 @@ use Rattle.deployment.proofs.Bytes.{elements-are-bytes}
 use Rattle.deployment.proofs.Records.{part-to-end}
 use Rattle.reader.proofs.Rules.{same-rule-bytes}
 use borrow.Author.Needs.{needs}
-use Rattle.reader.proofs.values.same_rule.Statement.{statement}
-use Rattle.reader.proofs.values.same_rule.Tie as tie
+use Rattle.reader.proofs.rule.same_rule.Statement.{statement}
+use Rattle.reader.proofs.rule.same_rule.Tie as tie
 
 shared-slice-read-if1 : tie.Need-shared-slice-read-if1
 shared-slice-read-if1 c = search needs

@@ -3,8 +3,8 @@ use native.Mathlib.Omega.{arith}
 use mathlib.Core.Path.{sym}
 use lib.ListN.{List·getD-eq-default}
 use borrow.Author.Needs.{needs}
-use Rattle.judge.proofs.place_of.Statement.{statement}
-use Rattle.judge.proofs.place_of.Tie as tie
+use Rattle.running.proofs.place_of.Statement.{statement}
+use Rattle.running.proofs.place_of.Tie as tie
 
 returns : tie.Need-returns
 returns c = sym (List·getD-eq-default (c .before .args .places .now) 0 (c .if1 .taken))

@@ -6,8 +6,8 @@ use mathlib.Core.Path.{_≡_, refl, sym, _∙_}
 use lib.ListN.{length, drop}
 use Rattle.policy.specs.Lists.{same}
 use Rattle.reader.proofs.SideBySide.{same-lengths, same-further, same-not, same-ends}
-use Rattle.reader.proofs.values.same_bytes.Statement.{statement}
-use Rattle.reader.proofs.values.same_bytes.Tie as tie
+use Rattle.reader.proofs.rule.same_bytes.Statement.{statement}
+use Rattle.reader.proofs.rule.same_bytes.Tie as tie
 
 abbrev Inv-loop : tie.InvT-loop
 Inv-loop a b k₀ k = (length a ≡ length b) × (k ≤ length a) × (same a b ≡ same (drop k a) (drop k b))

@@ -2,8 +2,8 @@
 use native.Mathlib.Omega.{arith}
 use Rattle.reader.proofs.Rules.{rising-elements}
 use borrow.Author.Needs.{needs}
-use Rattle.reader.proofs.values.rises_two.Statement.{statement}
-use Rattle.reader.proofs.values.rises_two.Tie as tie
+use Rattle.reader.proofs.rule.rises_two.Statement.{statement}
+use Rattle.reader.proofs.rule.rises_two.Tie as tie
 
 shared-slice-read-two : tie.Need-shared-slice-read-two
 shared-slice-read-two c = search needs

@@ -2,8 +2,8 @@
 use native.Mathlib.Omega.{arith}
 use Rattle.reader.proofs.Rules.{rising-elements}
 use borrow.Author.Needs.{needs}
-use Rattle.reader.proofs.values.rises_four.Statement.{statement}
-use Rattle.reader.proofs.values.rises_four.Tie as tie
+use Rattle.reader.proofs.rule.rises_four.Statement.{statement}
+use Rattle.reader.proofs.rule.rises_four.Tie as tie
 
 shared-slice-read-four : tie.Need-shared-slice-read-four
 shared-slice-read-four c = search needs
