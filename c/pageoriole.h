@@ -20,8 +20,8 @@
  * Places. What is written fills the first bytes of `place`; the others keep theirs. When a call is turned away or breaks off, all do.
  *
  * Stack. A call touches at most PAGEORIOLE_STACK bytes, and pageoriole_plan_text at most PAGEORIOLE_STACK_TEXT. This is measured and not
- * proved: c/stack.c runs every function on the largest inputs and fails above these. It finds 29,336 bytes (pageoriole_plan_two_file), and
- * 34,728 for pageoriole_plan_text.
+ * proved: c/stack.c runs every function on the largest inputs and fails above these. It finds 31,384 bytes (pageoriole_plan_two_file), and
+ * 36,776 for pageoriole_plan_text.
  */
 #ifndef PAGEORIOLE_H
 #define PAGEORIOLE_H
