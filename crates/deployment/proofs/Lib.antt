@@ -1,3 +1,4 @@
+pub mod Numbers
 pub mod Bytes
 pub mod Values
 pub mod Records
@@ -7,5 +8,6 @@ pub mod ReadBack
 pub mod Reader
 pub mod LongFiles
 pub mod FieldValues
+pub mod RefusedValues
 pub mod Storing
 pub mod Answers

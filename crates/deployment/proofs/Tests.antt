@@ -27,7 +27,7 @@ use Rattle.policy.specs.Claims.{Policy}
 use Rattle.policy.proofs.Tests.{byTest, never, and-both, both-and, or-either, or-left, or-right, not-true, false-not, falsely}
 use Rattle.policy.proofs.Lists.{all-in}
 use Rattle.policy.proofs.Order.{differ-distinct, distinct-differ, occurs-sublist, sublist-occurs}
-use Rattle.deployment.specs.Checked.{Checked, good, bad, _>>=_, _>>_, require}
+use Rattle.deployment.specs.Checked.{Checked, good, bad, _>>=_, _>>_, require, whyNumber}
 use Rattle.deployment.specs.Bytes.{number, part}
 use Rattle.deployment.specs.Values.{
   Script,
@@ -173,6 +173,10 @@ says-occurs k l m = says-and (occurs-sublist k l, sublist-occurs k l) (occurs-su
 abbrev pub Each : {A : Type 0} → (A → Type 0) → (Why → Type 0) → Checked A → Type 0
 Each P Q (good a) = P a
 Each P Q (bad why) = Q why
+
+-- turned away with a number
+abbrev pub Turns : {A : Type 0} → ℕ → Checked A → Type 0
+Turns number = Each (λ a. ⊥) (λ why. whyNumber why ≡ number)
 
 pub each-then : {A B : Type 0} (P : A → Type 0) (R : B → Type 0) (Q : Why → Type 0) (read : Checked A) (next : A → Checked B)
     → Each P Q read → ((a : A) → P a → Each R Q (next a)) → Each R Q (_>>=_ read next)

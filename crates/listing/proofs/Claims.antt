@@ -21,7 +21,7 @@ use Rattle.deployment.specs.Properties.{AreBytes, IfThere, Scripted, Valid, fie
 use Rattle.deployment.specs.declared.Refusal.{Refusal}
 use Rattle.deployment.specs.declared.Why.the-variants.{NoScript}
 use Rattle.deployment.proofs.Values.{byOption, none-some}
-use Rattle.deployment.proofs.Reader.{written-again, refusals}
+use Rattle.deployment.proofs.Reader.{written-again, refusal-row}
 use Rattle.replay.specs.Answers.{commandsOf}
 use Rattle.listing.specs.Text.{spacedAll, refusedText, verdictText, planPrinted, judgePrinted}
 use Rattle.listing.specs.Printing.{most-text}
@@ -32,7 +32,7 @@ use Rattle.listing.proofs.PlanTexts.{plans-short, printed-plans, printe
 -- a refusal's position is inside the file
 position-inside : (file : List ℕ) (r : Refusal) → AreBytes file → readFile file ≡ refused r → r .at ≤ length file
 position-inside file r bytes e =
-    let away = refusals file (r .why) (r .at) bytes .0 e in
+    let away = refusal-row file r bytes .0 e in
     omega (arith, away .counted, ap length (away .is), length-append (fieldsBytes (away .fields)) (away .left))
 
 pub plan-text-fits : PlanTextFits
