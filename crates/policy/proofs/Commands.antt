@@ -24,7 +24,7 @@ use Rattle.policy.proofs.Tests.{byTest, never, and-both, both-and, fals
 use Rattle.policy.proofs.Lists.{mem-in, in-mem, not-mem, not-in, length-around, in-middle, in-around, around-cases}
 use Rattle.policy.proofs.Lists.{before-after, not-before, without-at}
 use Rattle.policy.proofs.Order.{distinct-around, around-distinct}
-use Rattle.policy.proofs.Numbers.{fault-numbers-differ}
+use Rattle.policy.proofs.Numbers.{fault-numbers-differ, fault-below}
 
 -- A place in its range, and off it.
 within-on : (i top : ℕ) → within i top ≡ true → (1 ≤ i) × (i ≤ top)
@@ -191,6 +191,9 @@ module _ (size : ℕ) (l : List ℕ) where
   fails-with c n (already-there i o there) = (Present, refl, already-there-fails c i o there)
   fails-with c n (not-there i o lacks) = (Absent, refl, not-there-fails c i o lacks)
 
+  pub fails-below : (c : Command) (n : ℕ) → Fails size l c n → n < 24
+  fails-below c n h = let (fault, is, fails) = fails-with c n h in rw is at (fault-below fault)
+
   pub fails-failed : (c : Command) (fault : Fault) → Fails size l c (faultNumber fault) → step size l c ≡ failed fault
   fails-failed c fault h =
       let (with, is, fails) = fails-with c (faultNumber fault) h in fails ∙ ap failed (fault-numbers-differ with fault is)
@@ -200,6 +203,13 @@ passes-makes size l c m e =
     ⊎-elim
     (λ h. let same : h .0 ≡ m = cc (makes-passes size l c (h .0) (h .1)) in rw same at (h .1))
     (λ h. let clash : _≡_ {A = ℕ} 0 1 = cc (fails-failed size l c (h .0) (h .1)) in absurd (omega arith))
+    (makes-or-fails size l c)
+
+pub failed-fails : (size : ℕ) (l : List ℕ) (c : Command) (fault : Fault) → step size l c ≡ failed fault → Fails size l c (faultNumber fault)
+failed-fails size l c fault e =
+    ⊎-elim
+    (λ h. let clash : _≡_ {A = ℕ} 0 1 = cc (makes-passes size l c (h .0) (h .1)) in absurd (omega arith))
+    (λ h. let same : h .0 ≡ fault = cc (fails-failed size l c (h .0) (h .1)) in rw same at (h .1))
     (makes-or-fails size l c)
 
 pub makes-unique : (size : ℕ) (l : List ℕ) (c : Command) (m n : List ℕ) → Makes size l c m → Makes size l c n → m ≡ n

@@ -1,5 +1,6 @@
 -- No two answers share their number and values: each can be found again from them. Assumes nothing.
-use Prim.Native.Nat.{ℕ}
+use Prim.Native.Nat.{ℕ, _≤_, _<_}
+use native.Mathlib.Omega.{arith}
 use mathlib.Core.Path.{_≡_, refl, ap}
 use mathlib.Core.Bool.{cond}
 use mathlib.Core.List.{List, [], _∷_}
@@ -37,6 +38,13 @@ fault-again Number = refl
 pub fault-numbers-differ : FaultNumbersDiffer
 fault-numbers-differ = told-apart faultNumber (numbered faultNumber faults) fault-again
 
+-- faults are numbered below the other verdicts
+pub fault-below : (f : Fault) → faultNumber f < 24
+fault-below Present = omega arith
+fault-below Absent = omega arith
+fault-below Place = omega arith
+fault-below Number = omega arith
+
 -- the verdicts that have given values
 abbrev verdicts : ℕ → ℕ → List Verdict
 verdicts at place =
@@ -60,3 +68,15 @@ verdict-again Safe = refl
 
 pub verdict-numbers-differ : VerdictNumbersDiffer
 verdict-numbers-differ = told-apart verdictNumbers verdictFound verdict-again
+
+-- verdicts are numbered from 20 on
+pub verdict-from : (v : Verdict) → 20 ≤ getD (verdictNumbers v) 0 0
+unfolding verdictNumbers
+verdict-from (Broken Present at) = omega arith
+verdict-from (Broken Absent at) = omega arith
+verdict-from (Broken Place at) = omega arith
+verdict-from (Broken Number at) = omega arith
+verdict-from (Elsewhere commands) = omega arith
+verdict-from (Unordered at place) = omega arith
+verdict-from NotFull = omega arith
+verdict-from Safe = omega arith

@@ -91,6 +91,17 @@ replay-is-leads size initial l script = (
   leads-replays size initial l script,
 )
 
+pub replays-breaks : (size : ℕ) (l : List ℕ) (script : List Command) (fault : Fault) (at : ℕ)
+    → replay size l script ≡ broken fault at → BreaksAt size l script (faultNumber fault) at
+replays-breaks size l script fault at e =
+    ⊎-elim
+    (λ h. let clash : _≡_ {A = ℕ} 0 1 = cc (leads-replays size l (h .0) script (h .1)) in absurd (omega arith))
+    (λ h. let is = breaks-replays size l script (h .0) (h .1) (h .2) in
+    let why : h .0 ≡ fault = cc in
+    let where-to : h .1 ≡ at = cc in
+    rw where-to at (rw why at (h .2)))
+    (leads-or-breaks size l script)
+
 -- The lists on the way.
 pub lists-are-after : ListsAreAfter
 unfolding lists
