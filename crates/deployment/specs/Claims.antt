@@ -6,6 +6,7 @@ use mathlib.Core.Logic.{_↔_}
 use mathlib.Core.List.{List, map}
 use mathlib.Core.Option.{Option, none, some}
 use lib.ListN.{length, take}
+use Rattle.deployment.specs.Checked.{whyNumber, refusalNumbers}
 use Rattle.deployment.specs.Bytes.{joined}
 use Rattle.deployment.specs.Values.{Script, ruleBytes, numbersBytes, scriptBytes}
 use Rattle.deployment.specs.Contents.{Contents}
@@ -14,6 +15,14 @@ use Rattle.deployment.specs.FieldValues.{FieldValues, readValues}
 use Rattle.deployment.specs.Properties.{AreBytes, IfThere, Valid, TurnedAway}
 use Rattle.deployment.specs.declared.Why.{Why}
 use Rattle.deployment.specs.declared.Why.the-variants.{NoScript}
+use Rattle.deployment.specs.declared.Refusal.{Refusal}
+
+-- "a definition states this paper's number and values for each of its cases": the numbers tell the cases apart
+abbrev pub WhyNumbersDiffer : Type 0
+WhyNumbersDiffer = (v w : Why) → whyNumber v ≡ whyNumber w → v ≡ w
+
+abbrev pub RefusalNumbersDiffer : Type 0
+RefusalNumbersDiffer = (r s : Refusal) → refusalNumbers r ≡ refusalNumbers s → r ≡ s
 
 -- "those of an accepted file, written, give that file": and what is accepted is valid
 abbrev pub WrittenAgain : Type 0
