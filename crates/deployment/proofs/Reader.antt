@@ -271,13 +271,13 @@ refusal-row file refusal b =
     (λ e. row .0 (says .1 e), λ h. says .0 (row .1 h))
 
 -- Refusal 12 is none of the reader's: the numbers of those are below it.
-abbrev pub Below : Why → Type 0
+abbrev Below : Why → Type 0
 Below why = whyNumber why < 12
 
-abbrev pub AllBelow : {A : Type 0} → Checked A → Type 0
+abbrev AllBelow : {A : Type 0} → Checked A → Type 0
 AllBelow = Each (λ a. Unit {0}) Below
 
-pub below-then : {A B : Type 0} (read : Checked A) (next : A → Checked B) → AllBelow read → ((a : A) → AllBelow (next a))
+below-then : {A B : Type 0} (read : Checked A) (next : A → Checked B) → AllBelow read → ((a : A) → AllBelow (next a))
     → AllBelow (_>>=_ read next)
 below-then read next h others = each-then (λ a. Unit {0}) (λ b. Unit {0}) Below read next h (λ a t. others a)
 
@@ -290,16 +290,16 @@ head-below f left =
     tested AllBelow (lengthFits (tagOf left) (sizeOf left)) (λ e. omega arith) λ e.
     tested AllBelow (leb (head-bytes + sizeOf left) (length left)) (λ e. omega arith) λ e. tt
 
-pub rule-below : (c : List Rule) (value : List ℕ) → AllBelow (ruleRead c value)
+rule-below : (c : List Rule) (value : List ℕ) → AllBelow (ruleRead c value)
 rule-below c value = rule-tested AllBelow c value (λ h. omega arith) (λ h k. omega arith) (λ h k. tt)
 
-pub policy-below : (size : ℕ) (value : List ℕ) → AllBelow (policyRead size value)
+policy-below : (size : ℕ) (value : List ℕ) → AllBelow (policyRead size value)
 policy-below size value = policy-tested AllBelow size value (λ h. omega arith) (λ h k. omega arith) (λ h. tt)
 
-pub keep-below : (i t value : List ℕ) → AllBelow (keepRead i t value)
+keep-below : (i t value : List ℕ) → AllBelow (keepRead i t value)
 keep-below i t value = keep-tested AllBelow i t value (λ h. omega arith) (λ h k. tt)
 
-pub script-below : (value : List ℕ) → AllBelow (scriptRead value)
+script-below : (value : List ℕ) → AllBelow (scriptRead value)
 script-below value = script-tested AllBelow value (λ h. omega arith) (λ s h. tt)
 
 branch {ℓ} : {A : Type 0} (P : A → Type ℓ) (test : Bool) {x y : A} → P x → P y → P (elim test [ true ↦ x | false ↦ y ])

@@ -11,10 +11,12 @@ use Rattle.deployment.specs.Bytes.{joined}
 use Rattle.deployment.specs.Values.{Script, ruleBytes, numbersBytes, scriptBytes}
 use Rattle.deployment.specs.Contents.{Contents}
 use Rattle.deployment.specs.File.{Reading, accepted, refused, readingNumbers, readFile, readToJudge, fileOf}
-use Rattle.deployment.specs.FieldValues.{FieldValues, readValues}
+use Rattle.deployment.specs.FieldValues.{FieldValues, readValues, writtenNumbers}
 use Rattle.deployment.specs.Properties.{AreBytes, IfThere, Valid, TurnedAway, ValuesFail}
 use Rattle.deployment.specs.declared.Why.{Why}
 use Rattle.deployment.specs.declared.Refusal.{Refusal}
+use Rattle.deployment.specs.declared.Written.{Written}
+use Rattle.deployment.specs.declared.Written.the-variants.{Bytes, Turned}
 
 -- "a definition states this paper's number and values for each of its cases": the numbers tell the cases apart
 abbrev pub WhyNumbersDiffer : Type 0
@@ -23,9 +25,12 @@ WhyNumbersDiffer = (v w : Why) → whyNumber v ≡ whyNumber w → v ≡ w
 abbrev pub RefusalNumbersDiffer : Type 0
 RefusalNumbersDiffer = (r s : Refusal) → refusalNumbers r ≡ refusalNumbers s → r ≡ s
 
--- and a reading has those of a refusal exactly when it is turned away with it
+-- and an answer has those of a refusal exactly when it is that refusal: what is read, and what is written
 abbrev pub ReadingNumbersSay : Type 0
 ReadingNumbersSay = (reading : Reading) (refusal : Refusal) → (readingNumbers reading ≡ refusalNumbers refusal) ↔ (reading ≡ refused refusal)
+
+abbrev pub WrittenNumbersSay : Type 0
+WrittenNumbersSay = (answer : Written) (refusal : Refusal) → (writtenNumbers answer ≡ refusalNumbers refusal) ↔ (answer ≡ Turned refusal)
 
 -- "those of an accepted file, written, give that file": and what is accepted is valid
 abbrev pub WrittenAgain : Type 0

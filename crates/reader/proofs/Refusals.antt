@@ -15,7 +15,7 @@ use Rattle.deployment.specs.File.{Reading, accepted, refused, readingNumbers, r
 use Rattle.deployment.specs.FieldValues.{FieldValues, valuesRead, readValues}
 use Rattle.deployment.specs.Properties.{AreBytes, TurnedAway, ValuesFail}
 use Rattle.deployment.specs.declared.Refusal.{Refusal}
-use Rattle.deployment.proofs.Numbers.{both-same, refusal-numbers-differ}
+use Rattle.deployment.proofs.Numbers.{both-same, numbers-say}
 use Rattle.deployment.proofs.Values.{byOption}
 use Rattle.deployment.proofs.Reader.{refusals}
 use Rattle.deployment.proofs.RefusedValues.{refused-values}
@@ -31,12 +31,12 @@ use Rattle.reader.proofs.file.read_to_judge.Reads as read-to-judge
 use Rattle.reader.proofs.lists.values_checked.Reads as values-checked
 
 pub file-numbers-say : FileNumbersSay
-unfolding fileNumbers refusalNumbers
-file-numbers-say answer refusal = (go answer, λ e. ap fileNumbers e)
+unfolding fileNumbers
+file-numbers-say = numbers-say fileNumbers Refused (λ r. refl) cases
   where
-    go : (answer : FileRead) → fileNumbers answer ≡ refusalNumbers refusal → answer ≡ Refused refusal
-    go (Accepted layout) e = absurd (omega (arith, ap length e))
-    go (Refused other) e = ap Refused (refusal-numbers-differ other refusal e)
+    cases : (answer : FileRead) → (fileNumbers answer ≡ []) ⊎ ((r : Refusal) × (answer ≡ Refused r))
+    cases (Accepted layout) = inl refl
+    cases (Refused r) = inr (r, refl)
 
 pub refused-file : RefusedFile
 unfolding fileRead
