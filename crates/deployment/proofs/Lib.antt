@@ -7,7 +7,7 @@ pub mod Fields
 pub mod ReadBack
 pub mod Reader
 pub mod LongFiles
-pub mod FieldValues
 pub mod RefusedValues
+pub mod FieldValues
 pub mod Storing
 pub mod Answers

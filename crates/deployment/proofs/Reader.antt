@@ -333,17 +333,23 @@ reading-below zero f at (x ∷ l) =
     (λ why e. subst AllBelow e (below-then (fieldRead f (x ∷ l)) _ (head-below f (x ∷ l)) (value-below f)))
     (λ field g h e. reading-below (2 + length (field .value)) g (suc at) l)
 
+-- the reader's numbers are those up to 11
+pub file-numbers : (file : List ℕ) (number at : ℕ) → readingNumbers (readFile file) ≡ number ∷ at ∷ [] → number ≤ 11
+unfolding readFile readingNumbers refusalNumbers
+file-numbers file number at e = go (readFile file) (reading-below 0 nothing 0 file) e
+  where
+    go : (reading : Reading) → ReadsBelow reading → readingNumbers reading ≡ number ∷ at ∷ [] → number ≤ 11
+    go (accepted c) below e = absurd (omega (arith, ap length e))
+    go (refused refusal) below e = omega (arith, both-same e .0)
+
 pub refused-without-script : RefusedWithoutScript
-unfolding readToJudge needsScript readFile readingNumbers refusalNumbers
-refused-without-script file at = (
-  λ e. go (readFile file) refl e (reading-below 0 nothing 0 file),
-  λ h. rw (h .1, h .2, needsScript, h .3),
-)
+unfolding readToJudge needsScript readingNumbers refusalNumbers
+refused-without-script file at = (λ e. go (readFile file) refl e, λ h. rw (h .1, h .2, needsScript, h .3))
   where
     go : (reading : Reading) → readFile file ≡ reading → readingNumbers (needsScript (length file) reading) ≡ 12 ∷ at ∷ []
-        → ReadsBelow reading → (c : Contents) × (readFile file ≡ accepted c) × (c .script ≡ none) × (at ≡ length file)
-    go (refused refusal) h e below = absurd (omega (arith, both-same e .0))
-    go (accepted c) h e below =
+        → (c : Contents) × (readFile file ≡ accepted c) × (c .script ≡ none) × (at ≡ length file)
+    go (refused refusal) h e = absurd (omega (arith, file-numbers file 12 at (ap readingNumbers h ∙ e)))
+    go (accepted c) h e =
         byOption (c .script)
         (λ absent. (c, h, absent, sym (both-same (rw (absent, needsScript) at e) .1)))
         (λ s there. absurd (omega (arith, ap length (rw (there, needsScript) at e))))

@@ -113,7 +113,7 @@ use Rattle.deployment.proofs.Fields.{map-snoc, unlike-snoc}
 use Rattle.deployment.proofs.ReadBack.{unlike-before}
 
 -- One value behind another: what turns the first away turns both away, and the second counts where the first passes.
-abbrev Right : {A : Type 0} → (A → Type 0) → (ℕ → Type 0) → Checked A → Type 0
+abbrev pub Right : {A : Type 0} → (A → Type 0) → (ℕ → Type 0) → Checked A → Type 0
 Right P Fails = Each P (λ why. Fails (whyNumber why))
 
 right-then : {A B : Type 0} (P : A → Type 0) (R : B → Type 0) (Fails Row : ℕ → Type 0) (read : Checked A) (next : A → Checked B)
@@ -122,7 +122,7 @@ right-then : {A B : Type 0} (P : A → Type 0) (R : B → Type 0) (Fails Row : �
 right-then P R Fails Row (good a) next h row others = others a h
 right-then P R Fails Row (bad why) next h row others = row (whyNumber why) h
 
-each-map : {A : Type 0} (P R : A → Type 0) (Fails Row : ℕ → Type 0) (read : Checked A) → ((a : A) → P a → R a)
+pub each-map : {A : Type 0} (P R : A → Type 0) (Fails Row : ℕ → Type 0) (read : Checked A) → ((a : A) → P a → R a)
     → ((number : ℕ) → Fails number → Row number) → Right P Fails read → Right R Row read
 each-map P R Fails Row (good a) passes row h = passes a h
 each-map P R Fails Row (bad why) passes row h = row (whyNumber why) h
@@ -241,7 +241,7 @@ module _ (value : List ℕ) where
 
 -- A policy's value, over so many rules.
 module _ (size : ℕ) (value : List ℕ) where
-  policy-right : Right (λ p. PolicyRight size value × (p ≡ numbersOf value)) (PolicyFails size value) (policyValue size value)
+  pub policy-right : Right (λ p. PolicyRight size value × (p ≡ numbersOf value)) (PolicyFails size value) (policyValue size value)
   unfolding policyValue
   policy-right =
       let All = Right (λ p. PolicyRight size value × (p ≡ numbersOf value)) (PolicyFails size value) in

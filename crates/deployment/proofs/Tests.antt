@@ -20,7 +20,7 @@ use mathlib.Core.Option.{some}
 use lib.Dec.{eqb, leb, ltb}
 use borrow.Author.Tests.{ltb-true, ltb-false, leb-true, leb-false, eqb-true, le-ltb, le-leb, lt-leb, eq-eqb}
 use Rattle.policy.specs.Lists.{all, occurs, differ}
-use Rattle.policy.specs.Policy.{most-listed, most-commands}
+use Rattle.policy.specs.Policy.{most-listed}
 use Rattle.policy.specs.Rule.{Range, Rule}
 use Rattle.policy.specs.Properties.{Distinct}
 use Rattle.policy.specs.Claims.{Policy}
@@ -40,6 +40,7 @@ use Rattle.deployment.specs.Values.{
   numbersOf,
   scriptOf,
   listFits,
+  most-script-bytes,
   scriptFits,
 }
 use Rattle.deployment.specs.Contents.{ruleRead, policyRead, keepRead, scriptRead}
@@ -120,7 +121,7 @@ pub says-script : (size : ℕ) → Says (scriptFits size) (RightScript size)
 unfolding scriptFits
 says-script size =
     let says =
-    says-and (says-and (says-at-most 1 size) (says-equal ((size - 1) % 5) 0)) (says-at-most size (1 + 5 * most-commands)) in
+    says-and (says-and (says-at-most 1 size) (says-equal ((size - 1) % 5) 0)) (says-at-most size most-script-bytes) in
     (λ e. let h = says .0 e in ((size - 1) / 5, omega arith, omega arith), λ h. says .1 (omega arith))
 
 pub says-length : (tag size : ℕ) → Says (lengthFits tag size) (RightLength tag size)
