@@ -5,7 +5,7 @@ use Prim.Native.Nat.{ℕ, _+_, _*_, _≤_, _<_}
 use mathlib.Core.Path.{_≡_}
 use mathlib.Core.Logic.{_⊎_, _↔_}
 use mathlib.Core.Bool.{true}
-use mathlib.Core.List.{List}
+use mathlib.Core.List.{List, [], _∷_}
 use mathlib.Core.Option.{some}
 use lib.ListN.{length, drop}
 use Rattle.policy.specs.Lists.{common}
@@ -14,11 +14,10 @@ use Rattle.policy.specs.Command.{ofType}
 use Rattle.policy.specs.Replay.{lists}
 use Rattle.policy.specs.AppendDelete.{keptRun, planOne}
 use Rattle.policy.specs.InsertDeleteMove.{keptTwo, planTwo, movesInPlace}
-use Rattle.policy.specs.Judge.{verdict}
+use Rattle.policy.specs.Judge.{verdict, verdictNumbers}
 use Rattle.policy.specs.Properties.{Leads}
 use Rattle.policy.specs.Claims.{KeepsTheDefault, ChangesOnce, changePoint}
 use Rattle.policy.specs.declared.Command.{Command}
-use Rattle.policy.specs.declared.Verdict.the-variants.{NotFull, Safe}
 use Rattle.deployment.specs.Bytes.{number, part}
 use Rattle.deployment.specs.Values.{scriptOf}
 use Rattle.deployment.specs.Contents.{Contents}
@@ -50,8 +49,8 @@ pub record HoldsOne (c : Contents) (plan : Plan) (before after : List ℕ) : Typ
   pub reaches : Leads (length (c .catalogue)) (c .initial) commands (c .target)
   pub fewest : (other : List Command) → ofType 1 other ≡ true → Leads (length (c .catalogue)) (c .initial) other (c .target)
       → plan .commands ≤ length other
-  pub judged : (verdict (length (c .catalogue)) (c .initial) (c .target) commands ≡ NotFull)
-      ⊎ (verdict (length (c .catalogue)) (c .initial) (c .target) commands ≡ Safe)
+  pub judged : (verdictNumbers (verdict (length (c .catalogue)) (c .initial) (c .target) commands) ≡ 31 ∷ [])
+      ⊎ (verdictNumbers (verdict (length (c .catalogue)) (c .initial) (c .target) commands) ≡ 32 ∷ [])
   pub denied : KeepsTheDefault (length (c .catalogue)) (c .initial) (c .target) commands
 
 abbrev pub OneHolds : Type 0
@@ -69,7 +68,7 @@ pub record HoldsTwo (c : Contents) (plan : Plan) (before after : List ℕ) : Typ
   pub count : plan .commands + (movesInPlace (c .initial) (c .target) (c .keep) + (length (common (c .initial) (c .target)) + plan .kept))
       ≡ length (c .initial) + length (c .target)
   pub reaches : Leads (length (c .catalogue)) (c .initial) commands (c .target)
-  pub judged : verdict (length (c .catalogue)) (c .initial) (c .target) commands ≡ Safe
+  pub judged : verdictNumbers (verdict (length (c .catalogue)) (c .initial) (c .target) commands) ≡ 32 ∷ []
   pub once : (m : Matching)
       → ChangesOnce m (length (c .catalogue)) (c .initial) (c .target) commands
       (changePoint m (c .target) (lists (length (c .catalogue)) (c .initial) commands))
