@@ -25,7 +25,7 @@ use Rattle.policy.specs.Rule.{Rule}
 use Rattle.policy.specs.Claims.{Keepable}
 use Rattle.deployment.specs.Checked.{Checked, good, bad, _>>=_}
 use Rattle.deployment.specs.Bytes.{chunks, joined}
-use Rattle.deployment.specs.Values.{Script, rule-bytes, ruleBytes, numbersBytes, scriptBytes, listFits, scriptFits}
+use Rattle.deployment.specs.Values.{Script, rule-bytes, ruleBytes, numbersOf, numbersBytes, scriptBytes, listFits, scriptFits}
 use Rattle.deployment.specs.Contents.{Contents, ruleRead, keepRead, scriptRead}
 use Rattle.deployment.specs.File.{accepted}
 use Rattle.deployment.specs.FieldValues.{
@@ -39,7 +39,17 @@ use Rattle.deployment.specs.FieldValues.{
   atZero,
   readValues,
 }
-use Rattle.deployment.specs.Properties.{AreBytes, Recordable, Catalogue, Listed, Scripted, IfThere, Valid}
+use Rattle.deployment.specs.Properties.{
+  AreBytes,
+  Recordable,
+  Catalogue,
+  Listed,
+  Scripted,
+  IfThere,
+  Valid,
+  PolicyFails,
+  PolicyRight,
+}
 use Rattle.deployment.specs.Claims.{valuesOf, AreValues, ValuesWrittenAgain}
 use Rattle.deployment.proofs.Bytes.{length-chunks, chunk-length, joined-chunks, are-bytes-chunk}
 use Rattle.deployment.proofs.Values.{
@@ -57,11 +67,11 @@ use Rattle.deployment.proofs.Tests.{
   each-then,
   tested,
   rule-tested,
-  policy-tested,
   keep-tested,
   script-tested,
 }
 use Rattle.deployment.proofs.Fields.{joined-snoc, map-snoc, catalogue-snoc}
+use Rattle.deployment.proofs.RefusedValues.{each-map, policy-right}
 
 -- what holds of a value that is accepted
 abbrev Good : {A : Type 0} → (A → Type 0) → Checked A → Type 0
@@ -119,14 +129,14 @@ catalogue-good value b =
     (joined-chunks rule-bytes count value long)
 
 policy-good : (size : ℕ) (value : List ℕ) → AreBytes value → Good (IsPolicy size value) (policyValue size value)
-unfolding policyValue
 policy-good size value b =
-    tested (Good (IsPolicy size value)) (listFits (length value)) (λ e. tt) λ e.
-    let right = says-list (length value) .0 e in
-    policy-tested (Good (IsPolicy size value)) size value (λ outside. tt) (λ inside twice. tt) λ sound. (
+    each-map (λ p. PolicyRight size value × (p ≡ numbersOf value)) (IsPolicy size value) (PolicyFails size value) (λ n. Unit {0})
+    (policyValue size value)
+    (λ p ((right, sound), is).
+    rw is (
       record { few = rw (numbers-count value (right .0) (right .1)) (right .2); sound = sound },
       numbers-written value (right .0) (right .1) b,
-    )
+    )) (λ n fails. tt) (policy-right size value)
 
 keep-good : (i t : List ℕ) (value : Option (List ℕ)) → IfThere AreBytes value → Good (IsKeep i t value) (keepValue i t value)
 unfolding keepValue

@@ -32,7 +32,7 @@ use Rattle.policy.specs.Policy.{most-rules, most-listed}
 use Rattle.policy.specs.Rule.{Rule}
 use Rattle.policy.proofs.Tests.{never}
 use Rattle.policy.proofs.Lists.{mem-in, in-mem}
-use Rattle.deployment.specs.Checked.{Checked, good, bad, _>>=_}
+use Rattle.deployment.specs.Checked.{Checked, good, bad, _>>=_, whyNumber}
 use Rattle.deployment.specs.Bytes.{joined}
 use Rattle.deployment.specs.Values.{Script, rule-bytes, ruleOf, ruleBytes, known, numbersOf, numbersBytes, scriptBytes}
 use Rattle.deployment.specs.Contents.{ruleRead, policyRead, keepRead, scriptRead}
@@ -83,12 +83,22 @@ use Rattle.deployment.specs.Properties.{
   Measured,
   Whole,
   FieldFails,
+  cut,
+  wrong-tag,
+  no-target,
+  wrong-length,
+  wrong-bounds,
+  equal-rule,
+  rule-too-many,
+  names-outside,
+  names-twice,
+  keep-astray,
+  wrong-coding,
 }
 use Rattle.deployment.specs.declared.Why.{Why}
 use Rattle.deployment.specs.declared.Why.the-variants.{
   Cut,
   Tag,
-  NoTarget,
   Length,
   Bounds,
   Equal,
@@ -97,8 +107,6 @@ use Rattle.deployment.specs.declared.Why.the-variants.{
   Twice,
   Keep,
   Coding,
-  NoScript,
-  Room,
 }
 use Rattle.deployment.proofs.Bytes.{are-bytes-part, length-part, part-rest, part-written}
 use Rattle.deployment.proofs.Tests.{
@@ -117,6 +125,7 @@ use Rattle.deployment.proofs.Tests.{
   says-differ,
   says-occurs,
   Each,
+  Turns,
   tested,
   rule-tested,
   policy-tested,
@@ -218,24 +227,26 @@ says-too-many f tag = says-and (says-equal tag rule-tag) (says-at-most most-rule
 
 -- The field at the head: what is read of it is whole, and what turns it away is a row of the table.
 abbrev pub FieldRight : Fields → List ℕ → Checked Field → Type 0
-FieldRight f left = Each (λ field. Whole f left) (FieldFails f left)
+FieldRight f left = Each (λ field. Whole f left) (λ why. FieldFails f left (whyNumber why))
 
 pub field-right : (f : Fields) (left : List ℕ) → Stage f → 1 ≤ length left → FieldRight f left (fieldRead f left)
 unfolding fieldRead
 field-right f left s some-left =
-    tested (FieldRight f left) (leb head-bytes (length left)) (λ e. inl (some-left, leb-false head-bytes (length left) e)) λ e.
+    tested (FieldRight f left) (leb head-bytes (length left))
+    (λ e. cut (inl (some-left, leb-false head-bytes (length left) e))) λ e.
     let headed : Headed left = leb-true head-bytes (length left) e in
-    tested (FieldRight f left) (mem (tagOf left) (nextTags f)) (λ e. (headed, says-not (says-can-stand s (tagOf left)) e)) λ e.
+    tested (FieldRight f left) (mem (tagOf left) (nextTags f))
+    (λ e. wrong-tag headed (says-not (says-can-stand s (tagOf left)) e)) λ e.
     let tagged : Tagged f left = (headed, says-can-stand s (tagOf left) .0 e) in
     let denies = denies-of-not (says-too-many f (tagOf left)) in
     tested (FieldRight f left) (not (eqb (tagOf left) rule-tag && leb most-rules (length (f .catalogue))))
-    (λ e. (tagged, denies .0 e)) λ e.
+    (λ e. rule-too-many tagged (denies .0 e)) λ e.
     let counted : Counted f left = (tagged, denies-not denies e) in
     let says = says-length (tagOf left) (sizeOf left) in
-    tested (FieldRight f left) (lengthFits (tagOf left) (sizeOf left)) (λ e. (counted, says-not says e)) λ e.
+    tested (FieldRight f left) (lengthFits (tagOf left) (sizeOf left)) (λ e. wrong-length counted (says-not says e)) λ e.
     let measured : Measured f left = (counted, says .0 e) in
     tested (FieldRight f left) (leb (head-bytes + sizeOf left) (length left))
-    (λ e. inr (measured, leb-false (head-bytes + sizeOf left) (length left) e)) λ e.
+    (λ e. cut (inr (measured, leb-false (head-bytes + sizeOf left) (length left) e))) λ e.
     (measured, leb-true (head-bytes + sizeOf left) (length left) e)
 
 -- The value, by its tag.
@@ -281,10 +292,16 @@ field-and-rest left b h =
     )
 
 -- A field more.
+pub joined-append : (pieces others : List (List ℕ)) → joined (pieces ++ others) ≡ joined pieces ++ joined others
+unfolding joined
+joined-append [] others = refl
+joined-append (piece ∷ pieces) others =
+    rw (joined-append pieces others) (sym (append-assoc piece (joined pieces) (joined others)))
+
 pub joined-snoc : (pieces : List (List ℕ)) (piece : List ℕ) → joined (pieces ++ (piece ∷ [])) ≡ joined pieces ++ piece
 unfolding joined
-joined-snoc [] piece = append-nil piece
-joined-snoc (earlier ∷ pieces) piece = rw (joined-snoc pieces piece) (sym (append-assoc earlier (joined pieces) piece))
+joined-snoc pieces piece =
+    joined-append pieces (piece ∷ []) ∙ ap (λ (l : List ℕ). joined pieces ++ l) (append-nil piece)
 
 pub map-snoc : {A B : Type 0} (f : A → B) (l : List A) (a : A) → map f (l ++ (a ∷ [])) ≡ map f l ++ (f a ∷ [])
 map-snoc f [] a = refl
@@ -351,7 +368,7 @@ list-size r s = ⊎-elim (λ h. absurd (r (h .0))) (⊎-elim (λ h. absurd (s (h
 abbrev pub ValueRight : Fields → List ℕ → Checked Fields → Type 0
 ValueRight f left =
     Each (λ g. Whole f left × Readable g × (fieldsBytes g ++ drop (head-bytes + sizeOf left) left ≡ fieldsBytes f ++ left))
-    (FieldFails f left)
+    (λ why. FieldFails f left (whyNumber why))
 
 module _ (left : List ℕ) (b : AreBytes left) where
   -- the bytes of fields with one more
@@ -374,7 +391,7 @@ module _ (left : List ℕ) (b : AreBytes left) where
       let free : ¬ (most-rules ≤ length c) = λ h. whole .0 .0 .1 (e, h) in
       let recordable = rule-recordable value value-bytes long in
       rule-tested (λ read. ValueRight f left (_>>=_ read (λ rule. good (fields (c ++ (rule ∷ [])) none none none none)))) c value
-      (λ wrong. (whole, e, wrong)) (λ fits known. (whole, e, fits, known)) λ fits new. (
+      (wrong-bounds whole e) (equal-rule whole e) λ fits new. (
         whole,
         record {
           catalogue = catalogue-snoc c (ruleOf value) (r .catalogue) (omega arith) (recordable fits) new;
@@ -408,7 +425,7 @@ module _ (left : List ℕ) (b : AreBytes left) where
       let value = valueOf left in
       let written = list-written f whole (omega arith) (omega arith) in
       policy-tested (λ read. ValueRight f left (_>>=_ read (λ p. good (fields c (some p) none none none)))) (length c) value
-      (λ outside. (whole, inl e, outside)) (λ inside twice. (whole, inl e, inside, twice)) λ sound. (
+      (names-outside whole (inl e)) (names-twice whole (inl e)) λ sound. (
         whole,
         record {
           catalogue = r .catalogue;
@@ -428,7 +445,7 @@ module _ (left : List ℕ) (b : AreBytes left) where
       let value = valueOf left in
       let written = list-written f whole (omega arith) (omega arith) in
       policy-tested (λ read. ValueRight f left (_>>=_ read (λ p. good (fields c (some i) (some p) none none)))) (length c) value
-      (λ outside. (whole, inr e, outside)) (λ inside twice. (whole, inr e, inside, twice)) λ sound. (
+      (names-outside whole (inr e)) (names-twice whole (inr e)) λ sound. (
         whole,
         record {
           catalogue = r .catalogue;
@@ -448,7 +465,7 @@ module _ (left : List ℕ) (b : AreBytes left) where
       let value = valueOf left in
       let written = list-written f whole (omega arith) (omega arith) in
       keep-tested (λ read. ValueRight f left (_>>=_ read (λ keep. good (fields c (some i) (some t) (some keep) none)))) i t value
-      (λ fails. (whole, e, fails)) λ initial target. (
+      (keep-astray whole e) λ initial target. (
         whole,
         record {
           catalogue = r .catalogue;
@@ -469,7 +486,7 @@ module _ (left : List ℕ) (b : AreBytes left) where
       let long : length value ≡ sizeOf left = length-part head-bytes (sizeOf left) left (whole .1) in
       let right : RightScript (length value) = rw long (script-size e (whole .0 .1)) in
       script-tested (λ read. ValueRight f left (_>>=_ read (λ s. good (fields c (some i) (some t) keep (some s))))) value
-      (λ wrong. (whole, e, wrong)) λ s read. (
+      (wrong-coding whole e) λ s read. (
         whole,
         record {
           catalogue = r .catalogue;
@@ -536,48 +553,56 @@ module _ {f : Fields} (s : Stage f) (left : List ℕ) where
       go (bad why) e fails = rw e fails
       go (good field) e whole = rw (whole-taken whole) (value-right left b s r whole)
 
-  pub fails-taken : (why : Why) → 1 ≤ length left → FieldFails f left why → taken f left ≡ bad why
+  turned : (why : Why) → taken f left ≡ bad why → Turns (whyNumber why) (taken f left)
+  turned why e = rw e refl
+
+  pub fails-taken : {number : ℕ} → 1 ≤ length left → FieldFails f left number → Turns number (taken f left)
   unfolding fieldRead withRule ruleRead withInitial withTarget policyRead withKeep keepRead withScript scriptRead
-  fails-taken Cut some-left h =
-      ⊎-elim (λ h. rw (lt-leb head-bytes (length left) (h .1)))
+  fails-taken some-left (cut h) =
+      turned Cut (⊎-elim (λ h. rw (lt-leb head-bytes (length left) (h .1)))
       (λ h. rw (
         headed-test (h .0 .0 .0 .0),
         tagged-test (h .0 .0 .0),
         counted-test (h .0 .0),
         measured-test (h .0),
         lt-leb (head-bytes + sizeOf left) (length left) (h .1),
-      )) h
-  fails-taken Tag some-left h = rw (headed-test (h .0), not-says (says-can-stand s (tagOf left)) (h .1))
-  fails-taken NoTarget some-left h = absurd (omega (arith, ap length (h .0)))
-  fails-taken Length some-left h =
-      let wrong = not-says (says-length (tagOf left) (sizeOf left)) (h .1) in
-      rw (headed-test (h .0 .0 .0), tagged-test (h .0 .0), counted-test (h .0), wrong)
-  fails-taken TooMany some-left h =
-      rw (headed-test (h .0 .0), tagged-test (h .0), denies-of-not (says-too-many f (tagOf left)) .1 (h .1))
-  fails-taken Bounds some-left h =
-      whole-taken (h .0) ∙ with-rule f (tagOf left) (valueOf left) (h .1) ∙ rw (denies-bounds (valueOf left) .1 (h .2))
-  fails-taken Equal some-left h =
-      whole-taken (h .0) ∙ with-rule f (tagOf left) (valueOf left) (h .1)
-      ∙ rw (not-denies (denies-bounds (valueOf left)) (h .2), in-known (ruleOf (valueOf left)) (f .catalogue) (h .3))
-  fails-taken Outside some-left h =
-      let outside = denies-inside (length (f .catalogue)) (numbersOf (valueOf left)) .1 (h .2) in
-      whole-taken (h .0)
+      )) h)
+  fails-taken some-left (wrong-tag headed out) =
+      turned Tag (rw (headed-test headed, not-says (says-can-stand s (tagOf left)) out))
+  fails-taken some-left (no-target none-left h) = absurd (omega (arith, ap length none-left))
+  fails-taken some-left (wrong-length h wrong) =
+      let fails = not-says (says-length (tagOf left) (sizeOf left)) wrong in
+      turned Length (rw (headed-test (h .0 .0), tagged-test (h .0), counted-test h, fails))
+  fails-taken some-left (rule-too-many h many) =
+      turned TooMany (rw (headed-test (h .0), tagged-test h, denies-of-not (says-too-many f (tagOf left)) .1 many))
+  fails-taken some-left (wrong-bounds whole e wrong) =
+      turned Bounds
+      (whole-taken whole ∙ with-rule f (tagOf left) (valueOf left) e ∙ rw (denies-bounds (valueOf left) .1 wrong))
+  fails-taken some-left (equal-rule whole e right same) =
+      turned Equal
+      (whole-taken whole ∙ with-rule f (tagOf left) (valueOf left) e
+      ∙ rw (not-denies (denies-bounds (valueOf left)) right, in-known (ruleOf (valueOf left)) (f .catalogue) same))
+  fails-taken some-left (names-outside whole either out) =
+      let outside = denies-inside (length (f .catalogue)) (numbersOf (valueOf left)) .1 out in
+      turned Outside
+      (whole-taken whole
       ∙ ⊎-elim
       (λ e. with-initial f (tagOf left) (valueOf left) e ∙ rw outside)
       (λ e. with-target f (tagOf left) (valueOf left) e ∙ rw outside)
-      (h .1)
-  fails-taken Twice some-left h =
-      let inside = not-denies (denies-inside (length (f .catalogue)) (numbersOf (valueOf left))) (h .2) in
-      let twice = not-says (says-differ (numbersOf (valueOf left))) (h .3) in
-      whole-taken (h .0)
+      either)
+  fails-taken some-left (names-twice whole either in-catalogue same) =
+      let inside = not-denies (denies-inside (length (f .catalogue)) (numbersOf (valueOf left))) in-catalogue in
+      let twice = not-says (says-differ (numbersOf (valueOf left))) same in
+      turned Twice
+      (whole-taken whole
       ∙ ⊎-elim
       (λ e. with-initial f (tagOf left) (valueOf left) e ∙ rw (inside, twice))
       (λ e. with-target f (tagOf left) (valueOf left) e ∙ rw (inside, twice))
-      (h .1)
-  fails-taken Keep some-left h =
-      whole-taken (h .0) ∙ with-keep f (tagOf left) (valueOf left) (h .1)
-      ∙ rw (not-says (says-occurs (numbersOf (valueOf left)) (listed (f .initial)) (listed (f .target))) (h .2))
-  fails-taken Coding some-left h =
-      whole-taken (h .0) ∙ with-script f (tagOf left) (valueOf left) (h .1) ∙ rw (wrong-none (valueOf left) (h .2), scriptRead)
-  fails-taken NoScript some-left h = absurd h
-  fails-taken Room some-left h = absurd h
+      either)
+  fails-taken some-left (keep-astray whole e astray) =
+      turned Keep
+      (whole-taken whole ∙ with-keep f (tagOf left) (valueOf left) e
+      ∙ rw (not-says (says-occurs (numbersOf (valueOf left)) (listed (f .initial)) (listed (f .target))) astray))
+  fails-taken some-left (wrong-coding whole e wrong) =
+      turned Coding
+      (whole-taken whole ∙ with-script f (tagOf left) (valueOf left) e ∙ rw (wrong-none (valueOf left) wrong, scriptRead))

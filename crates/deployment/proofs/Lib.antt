@@ -1,3 +1,4 @@
+pub mod Numbers
 pub mod Bytes
 pub mod Values
 pub mod Records
@@ -6,6 +7,7 @@ pub mod Fields
 pub mod ReadBack
 pub mod Reader
 pub mod LongFiles
+pub mod RefusedValues
 pub mod FieldValues
 pub mod Storing
 pub mod Answers

@@ -11,6 +11,7 @@ use lib.Dec.{leb}
 use lib.Seq.{take-all, take-append-le, take-append-add, drop-append-le, length-take-le}
 use borrow.Author.Tests.{leb-true, leb-false}
 use Rattle.policy.proofs.Tests.{byTest}
+use Rattle.deployment.specs.Checked.{whyNumber}
 use Rattle.deployment.specs.Bytes.{number, part}
 use Rattle.deployment.specs.File.{Fields, head-bytes, Reading, accepted, refused, readFile, needsScript, readToJudge}
 use Rattle.deployment.specs.Properties.{
@@ -26,29 +27,24 @@ use Rattle.deployment.specs.Properties.{
   Measured,
   Whole,
   FieldFails,
+  cut,
+  wrong-tag,
+  no-target,
+  wrong-length,
+  wrong-bounds,
+  equal-rule,
+  rule-too-many,
+  names-outside,
+  names-twice,
+  keep-astray,
+  wrong-coding,
   TurnedAway,
 }
 use Rattle.deployment.specs.Claims.{deciding, LongFile, LongFileToJudge}
-use Rattle.deployment.specs.declared.Why.{Why}
-use Rattle.deployment.specs.declared.Why.the-variants.{
-  Cut,
-  Tag,
-  NoTarget,
-  Length,
-  Bounds,
-  Equal,
-  TooMany,
-  Outside,
-  Twice,
-  Keep,
-  Coding,
-  NoScript,
-  Room,
-}
 use Rattle.deployment.specs.declared.Refusal.{Refusal}
 use Rattle.deployment.proofs.Bytes.{are-bytes-take}
 use Rattle.deployment.proofs.ReadBack.{fields-fit}
-use Rattle.deployment.proofs.Reader.{accepted-file-fits, refusals}
+use Rattle.deployment.proofs.Reader.{accepted-file-fits, refusal-row}
 
 -- A part that lies in front.
 part-in-front : (start size : ℕ) (front rest : List ℕ) → start + size ≤ length front
@@ -93,33 +89,31 @@ module _ (f : Fields) (front rest : List ℕ) (long : 10244 ≤ length front) wh
       ap (λ (size : ℕ). part head-bytes size all) same-size
       ∙ part-in-front head-bytes (sizeOf front) front rest (whole-front h .1)
 
-  fails-front : (why : Why) → FieldFails f all why → FieldFails f front why
-  fails-front Cut h =
+  fails-front : {number : ℕ} → FieldFails f all number → FieldFails f front number
+  fails-front (cut h) =
       absurd (⊎-elim (λ h. omega (arith, length-append front rest)) (λ h. omega (arith, length-append front rest, right-few (h .0 .1))) h)
-  fails-front Tag h = (headed-front, rw same-tag at (h .1))
-  fails-front NoTarget h = absurd (omega (arith, length-append front rest, ap length (h .0)))
-  fails-front Length h = (counted-front (h .0), rw (same-tag, same-size) at (h .1))
-  fails-front TooMany h = (tagged-front (h .0), rw same-tag at (h .1))
-  fails-front Bounds h =
-      let value = same-value (h .0) in (whole-front (h .0), rw same-tag at (h .1), rw value at (h .2))
-  fails-front Equal h =
-      let value = same-value (h .0) in (whole-front (h .0), rw same-tag at (h .1), rw value at (h .2), rw value at (h .3))
-  fails-front Outside h =
-      let value = same-value (h .0) in (whole-front (h .0), rw same-tag at (h .1), rw value at (h .2))
-  fails-front Twice h =
-      let value = same-value (h .0) in (whole-front (h .0), rw same-tag at (h .1), rw value at (h .2), rw value at (h .3))
-  fails-front Keep h =
-      let value = same-value (h .0) in (whole-front (h .0), rw same-tag at (h .1), rw value at (h .2))
-  fails-front Coding h =
-      let value = same-value (h .0) in (whole-front (h .0), rw same-tag at (h .1), rw value at (h .2))
-  fails-front NoScript h = absurd h
-  fails-front Room h = absurd h
+  fails-front (wrong-tag headed out) = wrong-tag headed-front (rw same-tag at out)
+  fails-front (no-target none-left h) = absurd (omega (arith, length-append front rest, ap length none-left))
+  fails-front (wrong-length h wrong) = wrong-length (counted-front h) (rw (same-tag, same-size) at wrong)
+  fails-front (wrong-bounds whole e wrong) =
+      wrong-bounds (whole-front whole) (rw same-tag at e) (rw (same-value whole) at wrong)
+  fails-front (equal-rule whole e right known) =
+      let value = same-value whole in equal-rule (whole-front whole) (rw same-tag at e) (rw value at right) (rw value at known)
+  fails-front (rule-too-many h many) = rule-too-many (tagged-front h) (rw same-tag at many)
+  fails-front (names-outside whole e out) =
+      names-outside (whole-front whole) (rw same-tag at e) (rw (same-value whole) at out)
+  fails-front (names-twice whole e inside same) =
+      let value = same-value whole in names-twice (whole-front whole) (rw same-tag at e) (rw value at inside) (rw value at same)
+  fails-front (keep-astray whole e astray) =
+      keep-astray (whole-front whole) (rw same-tag at e) (rw (same-value whole) at astray)
+  fails-front (wrong-coding whole e wrong) =
+      wrong-coding (whole-front whole) (rw same-tag at e) (rw (same-value whole) at wrong)
 
 -- A file that is longer than the fields before a field and the most bytes that turn it away, 44,045 and 10,244.
 module _ (most : ℕ) (enough : 54289 ≤ most) where
-  turned-by-first : (file : List ℕ) (why : Why) (at : ℕ) → most ≤ length file → TurnedAway file why at
-      → TurnedAway (take most file) why at
-  turned-by-first file why at long h =
+  turned-by-first : (file : List ℕ) (number at : ℕ) → most ≤ length file → TurnedAway file number at
+      → TurnedAway (take most file) number at
+  turned-by-first file number at long h =
       let bytes = fieldsBytes (h .fields) in
       let left = h .left in
       let n = most - length bytes in
@@ -133,7 +127,7 @@ module _ (most : ℕ) (enough : 54289 ≤ most) where
         readable = h .readable;
         counted = h .counted;
         fails =
-            fails-front (h .fields) (take n left) (drop n left) (omega (arith, length-take-le n left there)) why
+            fails-front (h .fields) (take n left) (drop n left) (omega (arith, length-take-le n left there))
             (rw (take-append-drop n left) (h .fails));
       }
 
@@ -146,10 +140,9 @@ module _ (most : ℕ) (enough : 54289 ≤ most) where
           → (refusal : Refusal) × (readFile file ≡ refused refusal) × (readFile (take most file) ≡ refused refusal)
       go (accepted c) e = absurd (omega (arith, accepted-file-fits file c b e))
       go (refused refusal) e =
-          let why = refusal .why in
-          let at = refusal .at in
-          let turned = turned-by-first file why at (omega arith) (refusals file why at b .0 e) in
-          (refusal, e, refusals (take most file) why at (are-bytes-take most file b) .1 turned)
+          let turned =
+          turned-by-first file (whyNumber (refusal .why)) (refusal .at) (omega arith) (refusal-row file refusal b .0 e) in
+          (refusal, e, refusal-row (take most file) refusal (are-bytes-take most file b) .1 turned)
 
   -- what is said of a file and its first bytes: they are the same bytes, or both are turned away alike
   by-first {ℓ} : (Alike : List ℕ → List ℕ → Type ℓ) (file : List ℕ) → AreBytes file → Alike file file

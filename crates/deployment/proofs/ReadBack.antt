@@ -237,7 +237,7 @@ through-rule catalogue rule few h n =
     through-field (rulesOnly catalogue) rule-tag (ruleBytes rule) (omega arith) (omega arith) refl
     (lt-leb most-rules (length catalogue) few) (rw long) (rw (rule-reads catalogue rule h n))
 
-unlike-before : (u : List Rule) (rule : Rule) (v : List Rule) → Unlike (u ++ (rule ∷ v)) → ¬ List·Memᴰ rule u
+pub unlike-before : (u : List Rule) (rule : Rule) (v : List Rule) → Unlike (u ++ (rule ∷ v)) → ¬ List·Memᴰ rule u
 unlike-before [] rule v d h = List·Memᴰ·not-nil h
 unlike-before (first ∷ u) rule v d h =
     ⊎-elim (λ e. d .0 (Memᴰ·append-right u (List·Memᴰ·head (sym e)))) (λ t. unlike-before u rule v (d .1) t)

@@ -4,7 +4,7 @@ use Prim.Native.Nat.{ℕ, zero, suc, _+_, _-_, _≤_, _<_, zero-le}
 use native.Mathlib.Omega.{arith}
 use mathlib.Core.Path.{_≡_, refl, sym, _∙_, ap, subst}
 use mathlib.Core.Bool.{Bool, true, false, not, _&&_}
-use mathlib.Core.Logic.{⊎-elim}
+use mathlib.Core.Logic.{⊎-elim, _↔_}
 use mathlib.Core.List.{List, [], _∷_, _++_, append-nil, List·Memᴰ·not-nil, Sublistᴰ}
 use mathlib.Core.Option.{Option, none, some}
 use lib.ListN.{length, drop, length-append, length-drop}
@@ -13,7 +13,7 @@ use Rattle.policy.specs.Lists.{mem}
 use Rattle.policy.specs.Policy.{most-rules}
 use Rattle.policy.specs.Rule.{Rule}
 use Rattle.policy.specs.Claims.{Keepable}
-use Rattle.deployment.specs.Checked.{Checked, good, bad, _>>=_, whyNumber}
+use Rattle.deployment.specs.Checked.{Checked, good, bad, _>>=_, whyNumber, refusalNumbers}
 use Rattle.deployment.specs.Bytes.{joined}
 use Rattle.deployment.specs.Contents.{Contents, ruleRead, policyRead, keepRead, scriptRead}
 use Rattle.deployment.specs.File.{
@@ -33,6 +33,7 @@ use Rattle.deployment.specs.File.{
   Reading,
   accepted,
   refused,
+  readingNumbers,
   atEnd,
   readFrom,
   readFile,
@@ -58,29 +59,26 @@ use Rattle.deployment.specs.Properties.{
   valueOf,
   Whole,
   FieldFails,
+  cut,
+  wrong-tag,
+  no-target,
+  wrong-length,
+  wrong-bounds,
+  equal-rule,
+  rule-too-many,
+  names-outside,
+  names-twice,
+  keep-astray,
+  wrong-coding,
   TurnedAway,
 }
 use Rattle.deployment.specs.Claims.{WrittenAgain, Refused, RefusedWithoutScript, AcceptedFileFits}
 use Rattle.deployment.specs.declared.Why.{Why}
-use Rattle.deployment.specs.declared.Why.the-variants.{
-  Cut,
-  Tag,
-  NoTarget,
-  Length,
-  Bounds,
-  Equal,
-  TooMany,
-  Outside,
-  Twice,
-  Keep,
-  Coding,
-  NoScript,
-  Room,
-}
 use Rattle.deployment.specs.declared.Refusal.{Refusal}
+use Rattle.deployment.proofs.Numbers.{both-same, reading-numbers-say}
 use Rattle.deployment.proofs.Bytes.{are-bytes-drop, length-part}
 use Rattle.deployment.proofs.Values.{byOption}
-use Rattle.deployment.proofs.Tests.{Each, each-then, tested, rule-tested, policy-tested, keep-tested, script-tested}
+use Rattle.deployment.proofs.Tests.{Each, Turns, each-then, tested, rule-tested, policy-tested, keep-tested, script-tested}
 use Rattle.deployment.proofs.Fields.{
   Stage,
   at-rules,
@@ -133,11 +131,11 @@ passed-over s field g at x l whole e =
 -- What is right of a reading: accepted contents are valid and are written as the file, a refusal is a row of the table.
 abbrev pub ReadingRight : List ℕ → Reading → Type 0
 ReadingRight file (accepted c) = Valid c × (fileOf c ≡ file)
-ReadingRight file (refused refusal) = TurnedAway file (refusal .why) (refusal .at)
+ReadingRight file (refused refusal) = TurnedAway file (whyNumber (refusal .why)) (refusal .at)
 
-turned-away : (f : Fields) (left : List ℕ) (why : Why) → Readable f → FieldFails f left why
-    → TurnedAway (fieldsBytes f ++ left) why (length (fieldsBytes f))
-turned-away f left why r fails = record { fields = f; left = left; is = refl; readable = r; counted = refl; fails = fails }
+turned-away : (f : Fields) (left : List ℕ) {number : ℕ} → Readable f → FieldFails f left number
+    → TurnedAway (fieldsBytes f ++ left) number (length (fieldsBytes f))
+turned-away f left r fails = record { fields = f; left = left; is = refl; readable = r; counted = refl; fails = fails }
 
 keepable : (i t : List ℕ) (keep : Option (List ℕ)) → IfThere (λ k. There (some t) × Sublistᴰ k i × Sublistᴰ k t) keep
     → Keepable i t keep
@@ -146,8 +144,8 @@ keepable i t (some k) h = (h .1, h .2)
 
 end-right : (f : Fields) → Stage f → Readable f → ReadingRight (fieldsBytes f ++ []) (atEnd f (length (fieldsBytes f)))
 unfolding atEnd fieldsBytes ifThere fileOf listed
-end-right f (at-rules c) r = turned-away f [] NoTarget r (refl, λ h. h)
-end-right f (at-initial c i) r = turned-away f [] NoTarget r (refl, λ h. h)
+end-right f (at-rules c) r = turned-away f [] r (no-target refl (λ h. h))
+end-right f (at-initial c i) r = turned-away f [] r (no-target refl (λ h. h))
 end-right f (at-target c i t) r = (
   record { catalogue = r .catalogue; initial = r .initial; target = r .target .1; keep = tt; script = tt },
   sym (append-nil (fieldsBytes f)),
@@ -185,7 +183,7 @@ by-rest f (x ∷ l) r b others =
     let s = stage f r in
     let right : ValueRight f (x ∷ l) (taken f (x ∷ l)) = taken-right s (x ∷ l) r b (omega arith) in
     read-by (ReadingRight (fieldsBytes f ++ (x ∷ l))) f (length (fieldsBytes f)) x l
-    (λ why e. turned-away f (x ∷ l) why r (subst (ValueRight f (x ∷ l)) e right))
+    (λ why e. turned-away f (x ∷ l) r (subst (ValueRight f (x ∷ l)) e right))
     λ field g h e.
     let more : ValueRight f (x ∷ l) (good g) = subst (ValueRight f (x ∷ l)) e right in
     let past = head-bytes + sizeOf (x ∷ l) in
@@ -223,52 +221,63 @@ accepted-file-fits file c b e =
     let right = written-again file c b e in rw (← right .1) (valid-fits c (right .0))
 
 -- what fails at the end of the file is that no target is there
-fails-at-end : (f : Fields) (why : Why) → FieldFails f [] why → (why ≡ NoTarget) × ¬ There (f .target)
-fails-at-end f Cut h = absurd (⊎-elim (λ h. omega arith) (λ h. omega arith) h)
-fails-at-end f Tag h = absurd (omega arith)
-fails-at-end f NoTarget h = (refl, h .1)
-fails-at-end f Length h = absurd (omega arith)
-fails-at-end f Bounds h = absurd (omega arith)
-fails-at-end f Equal h = absurd (omega arith)
-fails-at-end f TooMany h = absurd (omega arith)
-fails-at-end f Outside h = absurd (omega arith)
-fails-at-end f Twice h = absurd (omega arith)
-fails-at-end f Keep h = absurd (omega arith)
-fails-at-end f Coding h = absurd (omega arith)
-fails-at-end f NoScript h = absurd h
-fails-at-end f Room h = absurd h
+fails-at-end : (f : Fields) {number : ℕ} → FieldFails f [] number → (number ≡ 3) × ¬ There (f .target)
+fails-at-end f (cut h) = absurd (⊎-elim (λ h. omega arith) (λ h. omega arith) h)
+fails-at-end f (wrong-tag headed out) = absurd (omega arith)
+fails-at-end f (no-target none-left h) = (refl, h)
+fails-at-end f (wrong-length h wrong) = absurd (omega arith)
+fails-at-end f (wrong-bounds whole e wrong) = absurd (omega arith)
+fails-at-end f (equal-rule whole e right same) = absurd (omega arith)
+fails-at-end f (rule-too-many h many) = absurd (omega arith)
+fails-at-end f (names-outside whole e out) = absurd (omega arith)
+fails-at-end f (names-twice whole e inside same) = absurd (omega arith)
+fails-at-end f (keep-astray whole e astray) = absurd (omega arith)
+fails-at-end f (wrong-coding whole e wrong) = absurd (omega arith)
 
 absent : {A : Type 0} (o : Option A) → ¬ There o → o ≡ none
 absent none h = refl
 absent (some a) h = absurd (h tt)
 
-fails-read : (f : Fields) (at : ℕ) (left : List ℕ) (why : Why) → Stage f → FieldFails f left why
-    → readFrom 0 f at left ≡ refused (record { why = why; at = at })
-unfolding readFrom atEnd
-fails-read f at [] why s fails = let last = fails-at-end f why fails in rw (last .0, absent (f .target) (last .1), atEnd)
-fails-read f at (x ∷ l) why s fails =
-    let named = fails-taken s (x ∷ l) why (omega arith) fails in
-    read-by (λ reading. reading ≡ refused (record { why = why; at = at })) f at x l
-    (λ other e. let same : other ≡ why = cc in rw same)
-    λ field g h e. absurd (let z : _≡_ {A = ℕ} 0 1 = cc in omega arith)
+fails-read : (f : Fields) (at : ℕ) (left : List ℕ) (number : ℕ) → Stage f → FieldFails f left number
+    → readingNumbers (readFrom 0 f at left) ≡ number ∷ at ∷ []
+unfolding readFrom atEnd readingNumbers refusalNumbers
+fails-read f at [] number s fails = let last = fails-at-end f fails in rw (last .0, absent (f .target) (last .1), atEnd)
+fails-read f at (x ∷ l) number s fails =
+    let turned = fails-taken s (x ∷ l) (omega arith) fails in
+    read-by (λ reading. readingNumbers reading ≡ number ∷ at ∷ []) f at x l
+    (λ why e. let same : whyNumber why ≡ number = subst (Turns number) e turned in rw same)
+    λ field g h e. absurd (subst (Turns number) e turned)
 
 pub refusals : Refused
-unfolding readFile
-refusals file why at b = (
-  λ e. subst (ReadingRight file) e (file-right file b),
+unfolding readFile readingNumbers refusalNumbers
+refusals file number at b = (
+  λ e. go (readFile file) (file-right file b) e,
   λ h. rw (h .is, h .counted)
-      (read-through (h .fields) (h .left) (h .readable)
-      ∙ fails-read (h .fields) (length (fieldsBytes (h .fields))) (h .left) why (stage (h .fields) (h .readable)) (h .fails)),
+      (ap readingNumbers (read-through (h .fields) (h .left) (h .readable))
+      ∙ fails-read (h .fields) (length (fieldsBytes (h .fields))) (h .left) number (stage (h .fields) (h .readable)) (h .fails)),
 )
+  where
+    go : (reading : Reading) → ReadingRight file reading → readingNumbers reading ≡ number ∷ at ∷ [] → TurnedAway file number at
+    go (accepted c) right e = absurd (omega (arith, ap length e))
+    go (refused refusal) right e = let same = both-same e in rw (← same .0, ← same .1) right
+
+-- the same of a refusal
+pub refusal-row : (file : List ℕ) (refusal : Refusal) → AreBytes file
+    → (readFile file ≡ refused refusal) ↔ TurnedAway file (whyNumber (refusal .why)) (refusal .at)
+unfolding refusalNumbers
+refusal-row file refusal b =
+    let says = reading-numbers-say (readFile file) refusal in
+    let row = refusals file (whyNumber (refusal .why)) (refusal .at) b in
+    (λ e. row .0 (says .1 e), λ h. says .0 (row .1 h))
 
 -- Refusal 12 is none of the reader's: the numbers of those are below it.
-abbrev pub Below : Why → Type 0
+abbrev Below : Why → Type 0
 Below why = whyNumber why < 12
 
-abbrev pub AllBelow : {A : Type 0} → Checked A → Type 0
+abbrev AllBelow : {A : Type 0} → Checked A → Type 0
 AllBelow = Each (λ a. Unit {0}) Below
 
-pub below-then : {A B : Type 0} (read : Checked A) (next : A → Checked B) → AllBelow read → ((a : A) → AllBelow (next a))
+below-then : {A B : Type 0} (read : Checked A) (next : A → Checked B) → AllBelow read → ((a : A) → AllBelow (next a))
     → AllBelow (_>>=_ read next)
 below-then read next h others = each-then (λ a. Unit {0}) (λ b. Unit {0}) Below read next h (λ a t. others a)
 
@@ -281,16 +290,16 @@ head-below f left =
     tested AllBelow (lengthFits (tagOf left) (sizeOf left)) (λ e. omega arith) λ e.
     tested AllBelow (leb (head-bytes + sizeOf left) (length left)) (λ e. omega arith) λ e. tt
 
-pub rule-below : (c : List Rule) (value : List ℕ) → AllBelow (ruleRead c value)
+rule-below : (c : List Rule) (value : List ℕ) → AllBelow (ruleRead c value)
 rule-below c value = rule-tested AllBelow c value (λ h. omega arith) (λ h k. omega arith) (λ h k. tt)
 
-pub policy-below : (size : ℕ) (value : List ℕ) → AllBelow (policyRead size value)
+policy-below : (size : ℕ) (value : List ℕ) → AllBelow (policyRead size value)
 policy-below size value = policy-tested AllBelow size value (λ h. omega arith) (λ h k. omega arith) (λ h. tt)
 
-pub keep-below : (i t value : List ℕ) → AllBelow (keepRead i t value)
+keep-below : (i t value : List ℕ) → AllBelow (keepRead i t value)
 keep-below i t value = keep-tested AllBelow i t value (λ h. omega arith) (λ h k. tt)
 
-pub script-below : (value : List ℕ) → AllBelow (scriptRead value)
+script-below : (value : List ℕ) → AllBelow (scriptRead value)
 script-below value = script-tested AllBelow value (λ h. omega arith) (λ s h. tt)
 
 branch {ℓ} : {A : Type 0} (P : A → Type ℓ) (test : Bool) {x y : A} → P x → P y → P (elim test [ true ↦ x | false ↦ y ])
@@ -324,21 +333,23 @@ reading-below zero f at (x ∷ l) =
     (λ why e. subst AllBelow e (below-then (fieldRead f (x ∷ l)) _ (head-below f (x ∷ l)) (value-below f)))
     (λ field g h e. reading-below (2 + length (field .value)) g (suc at) l)
 
-refused-at : {one other : Refusal} → refused one ≡ refused other → one ≡ other
-refused-at e = cc
+-- the reader's numbers are those up to 11
+pub file-numbers : (file : List ℕ) (number at : ℕ) → readingNumbers (readFile file) ≡ number ∷ at ∷ [] → number ≤ 11
+unfolding readFile readingNumbers refusalNumbers
+file-numbers file number at e = go (readFile file) (reading-below 0 nothing 0 file) e
+  where
+    go : (reading : Reading) → ReadsBelow reading → readingNumbers reading ≡ number ∷ at ∷ [] → number ≤ 11
+    go (accepted c) below e = absurd (omega (arith, ap length e))
+    go (refused refusal) below e = omega (arith, both-same e .0)
 
 pub refused-without-script : RefusedWithoutScript
-unfolding readToJudge needsScript readFile
-refused-without-script file at = (
-  λ e. go (readFile file) refl e (reading-below 0 nothing 0 file),
-  λ h. rw (h .1, h .2, needsScript, h .3),
-)
+unfolding readToJudge needsScript readingNumbers refusalNumbers
+refused-without-script file at = (λ e. go (readFile file) refl e, λ h. rw (h .1, h .2, needsScript, h .3))
   where
-    go : (reading : Reading) → readFile file ≡ reading
-        → needsScript (length file) reading ≡ refused (record { why = NoScript; at = at })
-        → ReadsBelow reading → (c : Contents) × (readFile file ≡ accepted c) × (c .script ≡ none) × (at ≡ length file)
-    go (refused refusal) h e below = absurd (omega (arith, subst (λ (r : Refusal). Below (r .why)) (refused-at e) below))
-    go (accepted c) h e below =
+    go : (reading : Reading) → readFile file ≡ reading → readingNumbers (needsScript (length file) reading) ≡ 12 ∷ at ∷ []
+        → (c : Contents) × (readFile file ≡ accepted c) × (c .script ≡ none) × (at ≡ length file)
+    go (refused refusal) h e = absurd (omega (arith, file-numbers file 12 at (ap readingNumbers h ∙ e)))
+    go (accepted c) h e =
         byOption (c .script)
-        (λ absent. (c, h, absent, ap (λ (r : Refusal). r .at) (refused-at (sym (rw (absent, needsScript) at e)))))
-        (λ s there. absurd (let other = rw (there, needsScript) at e in let z : _≡_ {A = ℕ} 0 1 = cc in omega arith))
+        (λ absent. (c, h, absent, sym (both-same (rw (absent, needsScript) at e) .1)))
+        (λ s there. absurd (omega (arith, ap length (rw (there, needsScript) at e))))

@@ -20,14 +20,14 @@ use mathlib.Core.Option.{some}
 use lib.Dec.{eqb, leb, ltb}
 use borrow.Author.Tests.{ltb-true, ltb-false, leb-true, leb-false, eqb-true, le-ltb, le-leb, lt-leb, eq-eqb}
 use Rattle.policy.specs.Lists.{all, occurs, differ}
-use Rattle.policy.specs.Policy.{most-listed, most-commands}
+use Rattle.policy.specs.Policy.{most-listed}
 use Rattle.policy.specs.Rule.{Range, Rule}
 use Rattle.policy.specs.Properties.{Distinct}
 use Rattle.policy.specs.Claims.{Policy}
 use Rattle.policy.proofs.Tests.{byTest, never, and-both, both-and, or-either, or-left, or-right, not-true, false-not, falsely}
 use Rattle.policy.proofs.Lists.{all-in}
 use Rattle.policy.proofs.Order.{differ-distinct, distinct-differ, occurs-sublist, sublist-occurs}
-use Rattle.deployment.specs.Checked.{Checked, good, bad, _>>=_, _>>_, require}
+use Rattle.deployment.specs.Checked.{Checked, good, bad, _>>=_, _>>_, require, whyNumber}
 use Rattle.deployment.specs.Bytes.{number, part}
 use Rattle.deployment.specs.Values.{
   Script,
@@ -40,6 +40,7 @@ use Rattle.deployment.specs.Values.{
   numbersOf,
   scriptOf,
   listFits,
+  most-script-bytes,
   scriptFits,
 }
 use Rattle.deployment.specs.Contents.{ruleRead, policyRead, keepRead, scriptRead}
@@ -120,7 +121,7 @@ pub says-script : (size : ℕ) → Says (scriptFits size) (RightScript size)
 unfolding scriptFits
 says-script size =
     let says =
-    says-and (says-and (says-at-most 1 size) (says-equal ((size - 1) % 5) 0)) (says-at-most size (1 + 5 * most-commands)) in
+    says-and (says-and (says-at-most 1 size) (says-equal ((size - 1) % 5) 0)) (says-at-most size most-script-bytes) in
     (λ e. let h = says .0 e in ((size - 1) / 5, omega arith, omega arith), λ h. says .1 (omega arith))
 
 pub says-length : (tag size : ℕ) → Says (lengthFits tag size) (RightLength tag size)
@@ -173,6 +174,10 @@ says-occurs k l m = says-and (occurs-sublist k l, sublist-occurs k l) (occurs-su
 abbrev pub Each : {A : Type 0} → (A → Type 0) → (Why → Type 0) → Checked A → Type 0
 Each P Q (good a) = P a
 Each P Q (bad why) = Q why
+
+-- turned away with a number
+abbrev pub Turns : {A : Type 0} → ℕ → Checked A → Type 0
+Turns number = Each (λ a. ⊥) (λ why. whyNumber why ≡ number)
 
 pub each-then : {A B : Type 0} (P : A → Type 0) (R : B → Type 0) (Q : Why → Type 0) (read : Checked A) (next : A → Checked B)
     → Each P Q read → ((a : A) → P a → Each R Q (next a)) → Each R Q (_>>=_ read next)

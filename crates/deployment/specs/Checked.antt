@@ -1,6 +1,8 @@
 -- 01, "Turned away": the numbers, and tests that are made one after another, the earlier winning. Assumes nothing.
 use Prim.Native.Nat.{ℕ}
 use mathlib.Core.Bool.{Bool, true, false}
+use mathlib.Core.List.{List, [], _∷_}
+use Rattle.deployment.specs.declared.Refusal.{Refusal}
 use Rattle.deployment.specs.declared.Why.{Why}
 use Rattle.deployment.specs.declared.Why.the-variants.{
   Cut,
@@ -33,6 +35,10 @@ whyNumber Keep = 10
 whyNumber Coding = 11
 whyNumber NoScript = 12
 whyNumber Room = 13
+
+-- the number of a refusal, and its position
+unfoldable pub refusalNumbers : Refusal → List ℕ
+refusalNumbers refusal = whyNumber (refusal .why) ∷ refusal .at ∷ []
 
 -- what a test or a run of tests gives: a value, or why it is turned away
 pub data Checked (A : Type 0) : Type 0 where

@@ -3,17 +3,34 @@
 use Prim.Native.Nat.{ℕ, _≤_}
 use mathlib.Core.Path.{_≡_}
 use mathlib.Core.Logic.{_↔_}
-use mathlib.Core.List.{List, map}
+use mathlib.Core.List.{List, [], _∷_, map}
 use mathlib.Core.Option.{Option, none, some}
 use lib.ListN.{length, take}
+use Rattle.deployment.specs.Checked.{whyNumber, refusalNumbers}
 use Rattle.deployment.specs.Bytes.{joined}
 use Rattle.deployment.specs.Values.{Script, ruleBytes, numbersBytes, scriptBytes}
 use Rattle.deployment.specs.Contents.{Contents}
-use Rattle.deployment.specs.File.{accepted, refused, readFile, readToJudge, fileOf}
-use Rattle.deployment.specs.FieldValues.{FieldValues, readValues}
-use Rattle.deployment.specs.Properties.{AreBytes, IfThere, Valid, TurnedAway}
+use Rattle.deployment.specs.File.{Reading, accepted, refused, readingNumbers, readFile, readToJudge, fileOf}
+use Rattle.deployment.specs.FieldValues.{FieldValues, readValues, writtenNumbers}
+use Rattle.deployment.specs.Properties.{AreBytes, IfThere, Valid, TurnedAway, ValuesFail}
 use Rattle.deployment.specs.declared.Why.{Why}
-use Rattle.deployment.specs.declared.Why.the-variants.{NoScript}
+use Rattle.deployment.specs.declared.Refusal.{Refusal}
+use Rattle.deployment.specs.declared.Written.{Written}
+use Rattle.deployment.specs.declared.Written.the-variants.{Bytes, Turned}
+
+-- "a definition states this paper's number and values for each of its cases": the numbers tell the cases apart
+abbrev pub WhyNumbersDiffer : Type 0
+WhyNumbersDiffer = (v w : Why) → whyNumber v ≡ whyNumber w → v ≡ w
+
+abbrev pub RefusalNumbersDiffer : Type 0
+RefusalNumbersDiffer = (r s : Refusal) → refusalNumbers r ≡ refusalNumbers s → r ≡ s
+
+-- and an answer has those of a refusal exactly when it is that refusal: what is read, and what is written
+abbrev pub ReadingNumbersSay : Type 0
+ReadingNumbersSay = (reading : Reading) (refusal : Refusal) → (readingNumbers reading ≡ refusalNumbers refusal) ↔ (reading ≡ refused refusal)
+
+abbrev pub WrittenNumbersSay : Type 0
+WrittenNumbersSay = (answer : Written) (refusal : Refusal) → (writtenNumbers answer ≡ refusalNumbers refusal) ↔ (answer ≡ Turned refusal)
 
 -- "those of an accepted file, written, give that file": and what is accepted is valid
 abbrev pub WrittenAgain : Type 0
@@ -26,15 +43,19 @@ ReadBack = (c : Contents) → Valid c → AreBytes (fileOf c) × (readFile (file
 -- Refusals 1 to 11: each number exactly at the position and under the condition of the table, the earlier test winning.
 abbrev pub Refused : Type 0
 Refused =
-    (file : List ℕ) (why : Why) (at : ℕ) → AreBytes file
-    → (readFile file ≡ refused (record { why = why; at = at })) ↔ TurnedAway file why at
+    (file : List ℕ) (number at : ℕ) → AreBytes file
+    → (readingNumbers (readFile file) ≡ number ∷ at ∷ []) ↔ TurnedAway file number at
 
 -- Refusal 12: the judge is called, and an accepted file has no script; at the file's length.
 abbrev pub RefusedWithoutScript : Type 0
 RefusedWithoutScript =
     (file : List ℕ) (at : ℕ)
-    → (readToJudge file ≡ refused (record { why = NoScript; at = at }))
+    → (readingNumbers (readToJudge file) ≡ 12 ∷ at ∷ [])
     ↔ ((c : Contents) × (readFile file ≡ accepted c) × (c .script ≡ none) × (at ≡ length file))
+
+-- Field values: each number exactly under its condition, "all at position 0", the earlier test winning.
+abbrev pub RefusedValues : Type 0
+RefusedValues = (v : FieldValues) (number at : ℕ) → (readingNumbers (readValues v) ≡ number ∷ at ∷ []) ↔ (ValuesFail v number × (at ≡ 0))
 
 -- Field values that are accepted are those of valid contents, and the contents of a file are accepted as field values too.
 unfoldable pub valuesOf : Contents → FieldValues

@@ -9,7 +9,7 @@ use lib.Seq.{sets}
 use lib.Dec.{eqb, leb}
 use Rattle.policy.specs.Policy.{most-rules}
 use Rattle.policy.specs.Rule.{Rule}
-use Rattle.deployment.specs.Checked.{Checked, good, bad, _>>=_, _>>_, require}
+use Rattle.deployment.specs.Checked.{Checked, good, bad, _>>=_, _>>_, require, refusalNumbers}
 use Rattle.deployment.specs.Bytes.{chunks}
 use Rattle.deployment.specs.Values.{Script, rule-bytes, listFits, scriptFits}
 use Rattle.deployment.specs.Contents.{Contents, ruleRead, policyRead, keepRead, scriptRead}
@@ -84,6 +84,11 @@ readValues v = atZero (valuesRead v)
 -- "on success the output fills the first bytes and the rest keep theirs"
 unfoldable pub filled : List ℕ → List ℕ → List ℕ
 filled place output = output ++ drop (length output) place
+
+-- the numbers of a refusal to write; none where bytes were written
+unfoldable pub writtenNumbers : Written → List ℕ
+writtenNumbers (Bytes count) = []
+writtenNumbers (Turned refusal) = refusalNumbers refusal
 
 -- what an entry that writes leaves: how many bytes it wrote, or the refusal; and every byte of the place
 pub record Writing : Type 0 where

@@ -8,7 +8,7 @@ use lib.Dec.{eqb, leb, ltb}
 use Rattle.policy.specs.Lists.{mem}
 use Rattle.policy.specs.Policy.{most-rules}
 use Rattle.policy.specs.Rule.{Rule}
-use Rattle.deployment.specs.Checked.{Checked, good, bad, _>>=_, _>>_, require}
+use Rattle.deployment.specs.Checked.{Checked, good, bad, _>>=_, _>>_, require, refusalNumbers}
 use Rattle.deployment.specs.Bytes.{number, bytesOf, part, joined}
 use Rattle.deployment.specs.Values.{Script, rule-bytes, ruleBytes, numbersBytes, scriptBytes, listFits, scriptFits}
 use Rattle.deployment.specs.Contents.{Contents, ruleRead, policyRead, keepRead, scriptRead}
@@ -133,6 +133,11 @@ withField f field =
 pub data Reading : Type 0 where
   accepted : Contents → Reading
   refused : Refusal → Reading
+
+-- the numbers of its refusal; none where it is accepted
+unfoldable pub readingNumbers : Reading → List ℕ
+readingNumbers (accepted contents) = []
+readingNumbers (refused refusal) = refusalNumbers refusal
 
 -- 3: "the file ends before a target policy", at the file's length
 unfoldable pub atEnd : Fields → ℕ → Reading

@@ -26,6 +26,7 @@ use Rattle.deployment.specs.Values.{
   scriptBytes,
 }
 use Rattle.deployment.specs.Contents.{Contents}
+use Rattle.deployment.specs.Catalogue.{recordsOf, catalogueOf}
 use Rattle.deployment.specs.File.{
   Fields,
   listed,
@@ -38,22 +39,7 @@ use Rattle.deployment.specs.File.{
   script-tag,
   head-bytes,
 }
-use Rattle.deployment.specs.declared.Why.{Why}
-use Rattle.deployment.specs.declared.Why.the-variants.{
-  Cut,
-  Tag,
-  NoTarget,
-  Length,
-  Bounds,
-  Equal,
-  TooMany,
-  Outside,
-  Twice,
-  Keep,
-  Coding,
-  NoScript,
-  Room,
-}
+use Rattle.deployment.specs.FieldValues.{FieldValues}
 
 -- a file is bytes
 abbrev pub AreBytes : List ℕ → Type 0
@@ -182,6 +168,10 @@ WrongBounds value =
 abbrev pub NamesOutside : ℕ → List ℕ → Type 0
 NamesOutside size policy = (r : ℕ) × List·Memᴰ r policy × (size ≤ r)
 
+-- 10: "keep list doesn't occur in order in both policies"
+abbrev pub InOrder : List ℕ → List ℕ → List ℕ → Type 0
+InOrder initial target keep = Sublistᴰ keep initial × Sublistᴰ keep target
+
 -- 11: "script type, code or unused number wrong": the type is neither 1 nor 2, or some five bytes are no command of that type
 abbrev pub NoCommand : ℕ → List ℕ → Type 0
 NoCommand type bytes = (c : Command) → commandType c ≡ type → ¬ (coded c ≡ codedOf bytes)
@@ -209,33 +199,98 @@ Whole f left = Measured f left × (head-bytes + sizeOf left ≤ length left)
 
 -- "Turned away": when the field at the head of the bytes that are left is turned away with which number; each row supposes that the
 -- earlier tests of the field pass
-abbrev pub FieldFails : Fields → List ℕ → Why → Type 0
-FieldFails f left Cut =
-    ((1 ≤ length left) × (length left < head-bytes)) ⊎ (Measured f left × (length left < head-bytes + sizeOf left))
-FieldFails f left Tag = Headed left × ¬ CanStand f (tagOf left)
-FieldFails f left NoTarget = (left ≡ []) × ¬ There (f .target)
-FieldFails f left Length = Counted f left × ¬ RightLength (tagOf left) (sizeOf left)
-FieldFails f left Bounds = Whole f left × (tagOf left ≡ rule-tag) × WrongBounds (valueOf left)
-FieldFails f left Equal =
-    Whole f left × (tagOf left ≡ rule-tag) × ¬ WrongBounds (valueOf left) × List·Memᴰ (ruleOf (valueOf left)) (f .catalogue)
-FieldFails f left TooMany = Tagged f left × OneTooMany f (tagOf left)
-FieldFails f left Outside =
-    Whole f left × ((tagOf left ≡ initial-tag) ⊎ (tagOf left ≡ target-tag)) × NamesOutside (length (f .catalogue)) (numbersOf (valueOf left))
-FieldFails f left Twice =
-    Whole f left × ((tagOf left ≡ initial-tag) ⊎ (tagOf left ≡ target-tag))
-    × ¬ NamesOutside (length (f .catalogue)) (numbersOf (valueOf left)) × ¬ Distinct (numbersOf (valueOf left))
-FieldFails f left Keep =
-    Whole f left × (tagOf left ≡ keep-tag)
-    × ¬ (Sublistᴰ (numbersOf (valueOf left)) (listed (f .initial)) × Sublistᴰ (numbersOf (valueOf left)) (listed (f .target)))
-FieldFails f left Coding = Whole f left × (tagOf left ≡ script-tag) × WrongCoding (valueOf left)
-FieldFails f left NoScript = ⊥
-FieldFails f left Room = ⊥
+pub data FieldFails (f : Fields) (left : List ℕ) : ℕ → Type 0 where
+  cut : ((1 ≤ length left) × (length left < head-bytes)) ⊎ (Measured f left × (length left < head-bytes + sizeOf left)) → FieldFails f left 1
+  wrong-tag : Headed left → ¬ CanStand f (tagOf left) → FieldFails f left 2
+  no-target : left ≡ [] → ¬ There (f .target) → FieldFails f left 3
+  wrong-length : Counted f left → ¬ RightLength (tagOf left) (sizeOf left) → FieldFails f left 4
+  wrong-bounds : Whole f left → tagOf left ≡ rule-tag → WrongBounds (valueOf left) → FieldFails f left 5
+  equal-rule : Whole f left → tagOf left ≡ rule-tag → ¬ WrongBounds (valueOf left) → List·Memᴰ (ruleOf (valueOf left)) (f .catalogue)
+      → FieldFails f left 6
+  rule-too-many : Tagged f left → OneTooMany f (tagOf left) → FieldFails f left 7
+  names-outside : Whole f left → (tagOf left ≡ initial-tag) ⊎ (tagOf left ≡ target-tag)
+      → NamesOutside (length (f .catalogue)) (numbersOf (valueOf left)) → FieldFails f left 8
+  names-twice : Whole f left → (tagOf left ≡ initial-tag) ⊎ (tagOf left ≡ target-tag)
+      → ¬ NamesOutside (length (f .catalogue)) (numbersOf (valueOf left)) → ¬ Distinct (numbersOf (valueOf left)) → FieldFails f left 9
+  keep-astray : Whole f left → tagOf left ≡ keep-tag → ¬ InOrder (listed (f .initial)) (listed (f .target)) (numbersOf (valueOf left))
+      → FieldFails f left 10
+  wrong-coding : Whole f left → tagOf left ≡ script-tag → WrongCoding (valueOf left) → FieldFails f left 11
 
 -- "Fields are tested left to right", the position being the field's first byte
-pub record TurnedAway (file : List ℕ) (why : Why) (at : ℕ) : Type 0 where
+pub record TurnedAway (file : List ℕ) (number at : ℕ) : Type 0 where
   pub fields : Fields
   pub left : List ℕ
   pub is : file ≡ fieldsBytes fields ++ left
   pub readable : Readable fields
   pub counted : at ≡ length (fieldsBytes fields)
-  pub fails : FieldFails fields left why
+  pub fails : FieldFails fields left number
+
+-- Field values, in document 01's order. 4 and 7: "rules not of 27 bytes each", "a 1,025th rule"
+abbrev pub RightRules : ℕ → Type 0
+RightRules size = (n : ℕ) × (size ≡ rule-bytes * n) × (n ≤ most-rules)
+
+-- rules that pass, as bytes: none has wrong bounds, none equals an earlier one
+pub record RulesPass (rules : List (List ℕ)) : Type 0 where
+  pub bounds : (rule : List ℕ) → List·Memᴰ rule rules → ¬ WrongBounds rule
+  pub unlike : Unlike (map ruleOf rules)
+
+-- "5 and 6 rule by rule": a rule behind those that pass
+pub data RuleFails (earlier : List (List ℕ)) (rule : List ℕ) : ℕ → Type 0 where
+  rule-bounds : WrongBounds rule → RuleFails earlier rule 5
+  rule-equal : ¬ WrongBounds rule → List·Memᴰ (ruleOf rule) (map ruleOf earlier) → RuleFails earlier rule 6
+
+pub record RulePlace (rules earlier : List (List ℕ)) (rule : List ℕ) : Type 0 where
+  pub later : List (List ℕ)
+  pub is : rules ≡ earlier ++ (rule ∷ later)
+  pub pass : RulesPass earlier
+
+-- "4 for rules not of 27 bytes each, 7, then 5 and 6 rule by rule"
+pub data RulesFail (value : List ℕ) : ℕ → Type 0 where
+  rules-length : ((n : ℕ) → ¬ (length value ≡ rule-bytes * n)) → RulesFail value 4
+  rules-many : (n : ℕ) → length value ≡ rule-bytes * n → most-rules < n → RulesFail value 7
+  rules-one : RightRules (length value) → (earlier : List (List ℕ)) (rule : List ℕ) (number : ℕ)
+      → RulePlace (recordsOf 0 value) earlier rule → RuleFails earlier rule number → RulesFail value number
+
+-- "4, 8, 9 for the initial policy and again for the target": a policy value over so many rules
+pub data PolicyFails (size : ℕ) (value : List ℕ) : ℕ → Type 0 where
+  policy-length : ¬ RightList (length value) → PolicyFails size value 4
+  policy-outside : RightList (length value) → NamesOutside size (numbersOf value) → PolicyFails size value 8
+  policy-twice : RightList (length value) → ¬ NamesOutside size (numbersOf value) → ¬ Distinct (numbersOf value)
+      → PolicyFails size value 9
+
+-- "4, 10 for the keep list"
+pub data KeepFails (initial target value : List ℕ) : ℕ → Type 0 where
+  keep-length : ¬ RightList (length value) → KeepFails initial target value 4
+  keep-order : RightList (length value) → ¬ InOrder initial target (numbersOf value) → KeepFails initial target value 10
+
+-- "4, 11 for the script"
+pub data ScriptFails (value : List ℕ) : ℕ → Type 0 where
+  script-length : ¬ RightScript (length value) → ScriptFails value 4
+  script-coding : RightScript (length value) → WrongCoding value → ScriptFails value 11
+
+-- each value where it passes
+abbrev pub RulesRight : List ℕ → Type 0
+RulesRight value = RightRules (length value) × RulesPass (recordsOf 0 value)
+
+abbrev pub PolicyRight : ℕ → List ℕ → Type 0
+PolicyRight size value = RightList (length value) × Policy size (numbersOf value)
+
+abbrev pub KeepRight : List ℕ → List ℕ → List ℕ → Type 0
+KeepRight initial target value = RightList (length value) × InOrder initial target (numbersOf value)
+
+-- "Entries that take lists": when field values are turned away with which number; each row supposes that the values before it pass
+abbrev pub ruleCount : FieldValues → ℕ
+ruleCount v = length (catalogueOf 0 (v .rules))
+
+abbrev pub PoliciesRight : FieldValues → Type 0
+PoliciesRight v = RulesRight (v .rules) × PolicyRight (ruleCount v) (v .initial) × PolicyRight (ruleCount v) (v .target)
+
+pub data ValuesFail (v : FieldValues) (number : ℕ) : Type 0 where
+  at-rules : RulesFail (v .rules) number → ValuesFail v number
+  at-initial : RulesRight (v .rules) → PolicyFails (ruleCount v) (v .initial) number → ValuesFail v number
+  at-target : RulesRight (v .rules) → PolicyRight (ruleCount v) (v .initial) → PolicyFails (ruleCount v) (v .target) number
+      → ValuesFail v number
+  at-keep : PoliciesRight v → (keep : List ℕ) → v .keep ≡ some keep → KeepFails (numbersOf (v .initial)) (numbersOf (v .target)) keep number
+      → ValuesFail v number
+  at-script : PoliciesRight v → IfThere (KeepRight (numbersOf (v .initial)) (numbersOf (v .target))) (v .keep)
+      → (script : List ℕ) → v .script ≡ some script → ScriptFails script number → ValuesFail v number

@@ -143,5 +143,8 @@ scriptBytes script = bytesOf 1 (script .type) ++ joined (map (λ c. codedBytes (
 unfoldable pub listFits : ℕ → Bool
 listFits size = eqb (size % 2) 0 && leb size (2 * most-listed)
 
+abbrev pub most-script-bytes : ℕ
+most-script-bytes = 1 + 5 * most-commands
+
 unfoldable pub scriptFits : ℕ → Bool
-scriptFits size = leb 1 size && eqb ((size - 1) % 5) 0 && leb size (1 + 5 * most-commands)
+scriptFits size = leb 1 size && eqb ((size - 1) % 5) 0 && leb size most-script-bytes

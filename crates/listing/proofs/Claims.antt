@@ -8,10 +8,9 @@ use mathlib.Core.Option.{Option, none, some}
 use lib.ListN.{length, length-append}
 use Rattle.policy.specs.Command.{faultNumber}
 use Rattle.policy.specs.Judge.{verdict, verdictNumbers}
-use Rattle.policy.specs.declared.Fault.{Fault}
-use Rattle.policy.specs.declared.Fault.the-variants.{Present, Absent, Place, Number}
 use Rattle.policy.specs.declared.Verdict.{Verdict}
 use Rattle.policy.specs.declared.Verdict.the-variants.{Broken, Elsewhere, Unordered, NotFull, Safe}
+use Rattle.policy.proofs.Numbers.{fault-below}
 use Rattle.policy.proofs.Judge.{verdict-broken, verdict-elsewhere, verdict-unordered}
 use Rattle.policy.proofs.Replay.{running-list-fits}
 use Rattle.deployment.specs.Values.{Script}
@@ -21,7 +20,7 @@ use Rattle.deployment.specs.Properties.{AreBytes, IfThere, Scripted, Valid, fie
 use Rattle.deployment.specs.declared.Refusal.{Refusal}
 use Rattle.deployment.specs.declared.Why.the-variants.{NoScript}
 use Rattle.deployment.proofs.Values.{byOption, none-some}
-use Rattle.deployment.proofs.Reader.{written-again, refusals}
+use Rattle.deployment.proofs.Reader.{written-again, refusal-row}
 use Rattle.replay.specs.Answers.{commandsOf}
 use Rattle.listing.specs.Text.{spacedAll, refusedText, verdictText, planPrinted, judgePrinted}
 use Rattle.listing.specs.Printing.{most-text}
@@ -32,7 +31,7 @@ use Rattle.listing.proofs.PlanTexts.{plans-short, printed-plans, printe
 -- a refusal's position is inside the file
 position-inside : (file : List ℕ) (r : Refusal) → AreBytes file → readFile file ≡ refused r → r .at ≤ length file
 position-inside file r bytes e =
-    let away = refusals file (r .why) (r .at) bytes .0 e in
+    let away = refusal-row file r bytes .0 e in
     omega (arith, away .counted, ap length (away .is), length-append (fieldsBytes (away .fields)) (away .left))
 
 pub plan-text-fits : PlanTextFits
@@ -44,12 +43,6 @@ plan-text-fits file (bytes, short) = go (readFile file) refl
         rw (printed-refusal file r e) (omega (arith, refused-short r (omega (arith, position-inside file r bytes e))))
 
 -- The numbers of a verdict.
-fault-small : (fault : Fault) → faultNumber fault < 2 ^ 64
-fault-small Present = omega arith
-fault-small Absent = omega arith
-fault-small Place = omega arith
-fault-small Number = omega arith
-
 script-few : (script : Option Script) → IfThere Scripted script → length (commandsOf script) ≤ 2048
 unfolding commandsOf
 script-few none right = omega arith
@@ -60,7 +53,7 @@ module _ (c : Contents) (valid : Valid c) where
       → length (spacedAll (verdictNumbers v)) ≤ 63
   unfolding verdictNumbers
   numbers-short (Broken fault at) e =
-      let breaks = verdict-broken (length (c .catalogue)) (c .initial) (c .target) (commandsOf (c .script)) fault at .0 e in
+      let breaks = verdict-broken (length (c .catalogue)) (c .initial) (c .target) (commandsOf (c .script)) (faultNumber fault) at (fault-below fault) .0 (ap verdictNumbers e) in
       let inside : at < 2 ^ 64 =
       omega (
         arith,
@@ -69,16 +62,16 @@ module _ (c : Contents) (valid : Valid c) where
         length-append (breaks .passed) (breaks .failing ∷ breaks .others),
         script-few (c .script) (valid .script),
       ) in
-      omega (arith, one-more (faultNumber fault) (at ∷ []) 21 (fault-small fault) (one-more at [] 0 inside none-yet))
+      omega (arith, one-more (faultNumber fault) (at ∷ []) 21 (omega (arith, fault-below fault)) (one-more at [] 0 inside none-yet))
   numbers-short (Elsewhere n) e =
-      let ends = verdict-elsewhere (length (c .catalogue)) (c .initial) (c .target) (commandsOf (c .script)) n .0 e in
+      let ends = verdict-elsewhere (length (c .catalogue)) (c .initial) (c .target) (commandsOf (c .script)) n .0 (ap verdictNumbers e) in
       let inside : n < 2 ^ 64 = omega (arith, ends .1, script-few (c .script) (valid .script)) in
       omega (arith, one-more 24 (n ∷ []) 21 (omega arith) (one-more n [] 0 inside none-yet))
   numbers-short (Unordered at place) e =
       let size = length (c .catalogue) in
       let script = commandsOf (c .script) in
       let first = valid .initial .sound in
-      let found = verdict-unordered size (c .initial) (c .target) script at place (first .distinct) (valid .target .sound .distinct) .0 e .1 in
+      let found = verdict-unordered size (c .initial) (c .target) script at place (first .distinct) (valid .target .sound .distinct) .0 (ap verdictNumbers e) .1 in
       let step : at < 2 ^ 64 = omega (arith, found .after .reached, script-few (c .script) (valid .script)) in
       let stands = found .unsupported .stands in
       let inside : place < 2 ^ 64 =

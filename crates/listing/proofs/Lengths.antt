@@ -12,8 +12,7 @@ use Rattle.deployment.specs.Checked.{whyNumber}
 use Rattle.policy.specs.Judge.{verdictNumbers}
 use Rattle.policy.specs.declared.Verdict.{Verdict}
 use Rattle.deployment.specs.declared.Refusal.{Refusal}
-use Rattle.deployment.specs.declared.Why.{Why}
-use Rattle.deployment.specs.declared.Why.the-variants.{Cut, Tag, NoTarget, Length, Bounds, Equal, TooMany, Outside, Twice, Keep, Coding, NoScript, Room}
+use Rattle.deployment.proofs.Numbers.{why-small}
 use Rattle.listing.specs.Text.{text, decimal, spaced, named, commandText, lineText, linesText, headText, refusedText, spacedAll, verdictText}
 use Rattle.listing.proofs.Digits.{length-decimal}
 
@@ -45,21 +44,6 @@ length-head type initial target kept commands = simp length-append (omega arith)
 length-refused : (r : Refusal) → length (refusedText r) ≡ 11 + (length (spaced (whyNumber (r .why))) + length (spaced (r .at)))
 unfolding refusedText named text
 length-refused r = simp length-append (omega arith)
-
-why-small : (why : Why) → whyNumber why ≤ 13
-why-small Cut = omega arith
-why-small Tag = omega arith
-why-small NoTarget = omega arith
-why-small Length = omega arith
-why-small Bounds = omega arith
-why-small Equal = omega arith
-why-small TooMany = omega arith
-why-small Outside = omega arith
-why-small Twice = omega arith
-why-small Keep = omega arith
-why-small Coding = omega arith
-why-small NoScript = omega arith
-why-small Room = omega arith
 
 pub refused-short : (r : Refusal) → r .at < 2 ^ 64 → length (refusedText r) ≤ 53
 refused-short r h =

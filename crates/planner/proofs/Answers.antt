@@ -1,25 +1,28 @@
 -- The entries themselves, by their contracts as the checker reads them: any two answers that one allows are equal, with every byte of the
--- place; and what an answer says of the place. Assumes nothing.
-use Prim.Native.Nat.{ℕ}
+-- place; what an answer says of the place; and what it says when it turns away. Assumes nothing.
+use Prim.Native.Nat.{ℕ, _≤_}
 use native.Mathlib.Omega.{arith}
 use mathlib.Core.Path.{_≡_, refl, sym, _∙_, ap}
-use mathlib.Core.List.{List}
+use mathlib.Core.Logic.{_↔_}
+use mathlib.Core.List.{List, [], _∷_}
+use lib.ListN.{length}
 use denote.Ref.{now}
 use borrow.Fn.World.{ArgsD}
 use Rattle.deployment.specs.Contents.{Contents}
-use Rattle.deployment.specs.File.{Reading, accepted, refused, readFile}
+use Rattle.deployment.specs.File.{Reading, accepted, refused, readingNumbers, readFile}
 use Rattle.deployment.specs.FieldValues.{FieldValues, readValues}
-use Rattle.deployment.specs.Properties.{AreBytes, Valid}
+use Rattle.deployment.specs.Properties.{AreBytes, Valid, TurnedAway, ValuesFail}
 use Rattle.deployment.specs.Claims.{AreValues}
-use Rattle.deployment.proofs.Reader.{written-again}
+use Rattle.deployment.proofs.Reader.{written-again, refusals, file-numbers}
 use Rattle.deployment.proofs.FieldValues.{values-written-again}
+use Rattle.deployment.proofs.RefusedValues.{refused-values, values-numbers}
 use Rattle.reader.specs.Answers.{valuesGiven}
-use Rattle.planner.specs.Plans.{Made, madeOne, madeTwo, Left, leftBy, planned}
-use Rattle.planner.specs.Claims.{HoldsOne, HoldsTwo}
+use Rattle.planner.specs.Plans.{Made, madeOne, madeTwo, scriptField, plannedNumbers, Left, leftBy, planned}
+use Rattle.planner.specs.Claims.{HoldsOne, HoldsTwo, TooSmall, enough-bytes, Refuses}
 use Rattle.planner.specs.declared.Plan.{Plan}
 use Rattle.planner.specs.declared.Planned.{Planned}
 use Rattle.planner.specs.declared.Planned.the-variants.{Done}
-use Rattle.planner.proofs.Claims.{one-holds, two-holds}
+use Rattle.planner.proofs.Claims.{one-holds, two-holds, turned-away-keeps, refused-for-room, refused-for-reading, room-for-every}
 use Rattle.planner.proofs.plan_one_values.{signature}
 use Rattle.planner.proofs.plan_one_file.Reads as one-file
 use Rattle.planner.proofs.plan_two_file.Reads as two-file
@@ -88,3 +91,65 @@ pub a-plan-two-from-values-holds : (κ : _) (a : _) (plan : Plan) (e : _) → tw
     → (c : Contents) × (readValues (values κ a) ≡ accepted c) × HoldsTwo c plan (place κ a) (now (e .1 .1 .1 .1 .1 .1 .1 .0))
 a-plan-two-from-values-holds κ a plan e p are =
     done-held madeTwo HoldsTwo two-holds (readValues (values κ a)) _ _ plan (λ c read. values-written-again (values κ a) c are read .0) p
+
+-- What an entry promises when it turns away, of either planner and of what it reads: a file or field values, by their rows.
+module _ (planner : Contents → Made) (room : (c : Contents) → Valid c → length (scriptField (planner c)) ≤ enough-bytes)
+    (reading : Reading) (valid : (c : Contents) → reading ≡ accepted c → Valid c) (Row : ℕ → ℕ → Type 0)
+    (rows : (number at : ℕ) → (readingNumbers reading ≡ number ∷ at ∷ []) ↔ Row number at)
+    (below : (number at : ℕ) → readingNumbers reading ≡ number ∷ at ∷ [] → number ≤ 11) where
+  refuses : (answer : Planned) (before after : List ℕ) → leftBy answer after ≡ planned planner reading before
+      → Refuses planner reading Row answer before after
+  refuses answer before after p =
+      let is : answer ≡ (planned planner reading before) .answer = ap (λ (left : Left). left .answer) p in
+      let small : (at : ℕ) → (plannedNumbers answer ≡ 13 ∷ at ∷ []) ↔ TooSmall planner reading before at =
+      λ at. rw is (refused-for-room planner reading before at (λ e. omega (arith, below 13 at e))) in
+      record {
+        keeps =
+            λ number at turned.
+            ap (λ (left : Left). left .place) p ∙ turned-away-keeps planner reading before number at (sym (ap plannedNumbers is) ∙ turned);
+        room = small;
+        row =
+            λ number at other.
+            let read = refused-for-reading planner reading before number at other in
+            (λ e. rows number at .0 (read .0 (sym (ap plannedNumbers is) ∙ e)), λ row. ap plannedNumbers is ∙ read .1 (rows number at .1 row));
+        enough =
+            λ long at turned.
+            let (c, read, short, needs) = small at .0 turned in omega (arith, room c (valid c read), long, short);
+      }
+
+-- over a file
+module _ (planner : Contents → Made) (room : (c : Contents) → Valid c → length (scriptField (planner c)) ≤ enough-bytes)
+    (file : List ℕ) (bytes : AreBytes file) where
+  file-refuses : (answer : Planned) (before after : List ℕ) → leftBy answer after ≡ planned planner (readFile file) before
+      → Refuses planner (readFile file) (TurnedAway file) answer before after
+  file-refuses =
+      refuses planner room (readFile file) (λ c read. written-again file c bytes read .0) (TurnedAway file)
+      (λ number at. refusals file number at bytes) (file-numbers file)
+
+pub plan-one-file-refuses : (κ : _) (a : _) (r : Planned) (e : _) → one-file.Post κ a r e → AreBytes (now (a .0))
+    → Refuses madeOne (readFile (now (a .0))) (TurnedAway (now (a .0))) r (now (a .1 .0)) (now (e .1 .0))
+plan-one-file-refuses κ a r e p bytes = file-refuses madeOne (λ c valid. room-for-every c valid .0) (now (a .0)) bytes r _ _ p
+
+pub plan-two-file-refuses : (κ : _) (a : _) (r : Planned) (e : _) → two-file.Post κ a r e → AreBytes (now (a .0))
+    → Refuses madeTwo (readFile (now (a .0))) (TurnedAway (now (a .0))) r (now (a .1 .0)) (now (e .1 .0))
+plan-two-file-refuses κ a r e p bytes = file-refuses madeTwo (λ c valid. room-for-every c valid .1) (now (a .0)) bytes r _ _ p
+
+-- over field values
+abbrev ValuesRow : FieldValues → ℕ → ℕ → Type 0
+ValuesRow v number at = ValuesFail v number × (at ≡ 0)
+
+module _ (planner : Contents → Made) (room : (c : Contents) → Valid c → length (scriptField (planner c)) ≤ enough-bytes)
+    (v : FieldValues) (are : AreValues v) where
+  values-refuse : (answer : Planned) (before after : List ℕ) → leftBy answer after ≡ planned planner (readValues v) before
+      → Refuses planner (readValues v) (ValuesRow v) answer before after
+  values-refuse =
+      refuses planner room (readValues v) (λ c read. values-written-again v c are read .0) (ValuesRow v) (refused-values v)
+      (λ number at e. values-numbers (refused-values v number at .0 e .0))
+
+pub plan-one-values-refuses : (κ : _) (a : _) (r : Planned) (e : _) → one-values.Post κ a r e → AreValues (values κ a)
+    → Refuses madeOne (readValues (values κ a)) (ValuesRow (values κ a)) r (place κ a) (now (e .1 .1 .1 .1 .1 .1 .1 .0))
+plan-one-values-refuses κ a r e p are = values-refuse madeOne (λ c valid. room-for-every c valid .0) (values κ a) are r _ _ p
+
+pub plan-two-values-refuses : (κ : _) (a : _) (r : Planned) (e : _) → two-values.Post κ a r e → AreValues (values κ a)
+    → Refuses madeTwo (readValues (values κ a)) (ValuesRow (values κ a)) r (place κ a) (now (e .1 .1 .1 .1 .1 .1 .1 .0))
+plan-two-values-refuses κ a r e p are = values-refuse madeTwo (λ c valid. room-for-every c valid .1) (values κ a) are r _ _ p

@@ -2,11 +2,11 @@
 -- than the catalogue, so all its numbers have two bytes and its field reads back. Assumes nothing.
 use Prim.Native.Nat.{ℕ, _≤_, _<_}
 use native.Mathlib.Omega.{arith}
-use mathlib.Core.Path.{_≡_, refl, sym, ap}
+use mathlib.Core.Path.{_≡_, refl, sym, _∙_, ap}
 use mathlib.Core.Logic.{inl, inr, _⊎_, ⊎-elim}
 use mathlib.Core.Bool.{true}
 use mathlib.Core.List.{List, [], _∷_, List·Memᴰ, List·Memᴰ·cases-cons, List·Memᴰ·not-nil}
-use borrow.Author.Tests.{eqb-true, lt-leb, leb-false}
+use borrow.Author.Tests.{eqb-true, leb-true, leb-false}
 use lib.Dec.{eqb, leb}
 use lib.ListN.{length, drop, length-append}
 use lib.Seq.{drop-at}
@@ -25,19 +25,46 @@ use Rattle.policy.proofs.AppendDelete.{plan-one-count, plan-one-reaches}
 use Rattle.policy.proofs.Fewest.{plan-one-fewest}
 use Rattle.policy.proofs.InsertDeleteMove.{plan-two-count, plan-two-reaches}
 use Rattle.policy.proofs.Plans.{plan-one-verdict, plan-one-keeps-the-default, plan-two-verdict, plan-two-changes-once, plans-fit}
+use Rattle.deployment.specs.Checked.{refusalNumbers}
 use Rattle.deployment.specs.Bytes.{number, part}
 use Rattle.deployment.specs.Values.{scriptBytes}
 use Rattle.deployment.specs.Contents.{Contents}
-use Rattle.deployment.specs.File.{accepted, refused, script-tag}
+use Rattle.deployment.specs.File.{Reading, accepted, refused, readingNumbers, script-tag}
 use Rattle.deployment.specs.FieldValues.{filled}
 use Rattle.deployment.specs.Properties.{Scripted, Valid}
 use Rattle.deployment.specs.declared.Why.the-variants.{Room}
 use Rattle.deployment.specs.declared.Refusal.{Refusal}
+use Rattle.deployment.proofs.Numbers.{both-same, numbers-say}
 use Rattle.deployment.proofs.Values.{length-script, script-read}
 use Rattle.deployment.proofs.ReadBack.{tag-read, size-read, value-read}
-use Rattle.planner.specs.Plans.{Made, scriptField, planOf, madeOneOf, madeOne, madeTwoOf, madeTwo, sentPlan, placedPlan, planned}
-use Rattle.planner.specs.Claims.{Holds, OneHolds, TwoHolds, TurnedAwayKeeps, RefusedForRoom, RoomForEvery}
+use Rattle.planner.specs.Plans.{
+  Made,
+  scriptField,
+  planOf,
+  madeOneOf,
+  madeOne,
+  madeTwoOf,
+  madeTwo,
+  plannedNumbers,
+  Left,
+  leftBy,
+  sentPlan,
+  placedPlan,
+  planned,
+}
+use Rattle.planner.specs.Claims.{
+  Holds,
+  OneHolds,
+  TwoHolds,
+  PlannedNumbersSay,
+  TurnedAwayKeeps,
+  TooSmall,
+  RefusedForRoom,
+  RefusedForReading,
+  RoomForEvery,
+}
 use Rattle.planner.specs.declared.Plan.{Plan}
+use Rattle.planner.specs.declared.Planned.{Planned}
 use Rattle.planner.specs.declared.Planned.the-variants.{Done, Turned}
 use Rattle.planner.proofs.Sending.{length-field}
 
@@ -174,34 +201,64 @@ two-holds c place plan valid e =
       once = λ m. plan-two-changes-once m size (c .initial) (c .target) (c .keep) lists;
     }
 
--- Turned away.
-turned-keeps : (made : Made) (place : List ℕ) (refusal : Refusal) → (placedPlan made place) .answer ≡ Turned refusal
-    → (placedPlan made place) .place ≡ place
-unfolding placedPlan sentPlan
-turned-keeps made place refusal e =
-    byTest (leb (length (scriptField made)) (length place))
-    (λ room. absurd (let z : _≡_ {A = ℕ} 0 1 = cc (rw room at e) in omega arith))
-    (λ small. rw small)
+-- Turned away: the three answers of a planner to what is read.
+pub planned-numbers-say : PlannedNumbersSay
+unfolding plannedNumbers
+planned-numbers-say = numbers-say plannedNumbers Turned (λ r. refl) cases
+  where
+    cases : (answer : Planned) → (plannedNumbers answer ≡ []) ⊎ ((r : Refusal) × (answer ≡ Turned r))
+    cases (Done plan) = inl refl
+    cases (Turned r) = inr (r, refl)
+
+no-numbers {ℓ} : {A : Type ℓ} {number at : ℕ} → _≡_ {A = List ℕ} [] (number ∷ at ∷ []) → A
+no-numbers e = absurd (omega (arith, ap length e))
+
+module _ (planner : Contents → Made) (place : List ℕ) where
+  planned-cases {ℓ} : (P : Left → Type ℓ) (reading : Reading)
+      → ((c : Contents) → reading ≡ accepted c → length (scriptField (planner c)) ≤ length place
+      → P (leftBy (Done (planOf (planner c))) (filled place (scriptField (planner c)))))
+      → ((c : Contents) → reading ≡ accepted c → length place < length (scriptField (planner c))
+      → P (leftBy (Turned (record { why = Room; at = length (scriptField (planner c)) })) place))
+      → ((refusal : Refusal) → reading ≡ refused refusal → P (leftBy (Turned refusal) place)) → P (planned planner reading place)
+  unfolding planned placedPlan sentPlan
+  planned-cases P (accepted c) fits small away =
+      let field = scriptField (planner c) in
+      byTest (leb (length field) (length place))
+      (λ t. rw t (fits c refl (leb-true (length field) (length place) t)))
+      (λ f. rw f (small c refl (leb-false (length field) (length place) f)))
+  planned-cases P (refused refusal) fits small away = away refusal refl
 
 pub turned-away-keeps : TurnedAwayKeeps
-unfolding planned
-turned-away-keeps planner (accepted c) place refusal e = turned-keeps (planner c) place refusal e
-turned-away-keeps planner (refused other) place refusal e = refl
+unfolding plannedNumbers
+turned-away-keeps planner reading place number at =
+    planned-cases planner place (λ left. plannedNumbers (left .answer) ≡ number ∷ at ∷ [] → left .place ≡ place) reading
+    (λ c read fits. no-numbers) (λ c read small e. refl) (λ refusal read e. refl)
 
 pub refused-for-room : RefusedForRoom
-unfolding planned placedPlan sentPlan
-refused-for-room planner c place at =
-    let field = scriptField (planner c) in (
-      λ e. byTest (leb (length field) (length place))
-          (λ room. absurd (let z : _≡_ {A = ℕ} 0 1 = cc (rw room at e) in omega arith))
-          (λ small. (leb-false (length field) (length place) small, room-same (rw small at e))),
-      λ h. rw (h .1, lt-leb (length field) (length place) (h .0)),
-    )
-  where
-    room-same : {n m : ℕ} → Turned (record { why = Room; at = n }) ≡ Turned (record { why = Room; at = m }) → m ≡ n
-    room-same {n} {m} e =
-        let same : _≡_ {A = Refusal} (record { why = Room; at = n }) (record { why = Room; at = m }) = cc in
-        sym (ap (λ (r : Refusal). r .at) same)
+unfolding plannedNumbers readingNumbers refusalNumbers
+refused-for-room planner reading place at other = (
+  planned-cases planner place (λ left. plannedNumbers (left .answer) ≡ 13 ∷ at ∷ [] → TooSmall planner reading place at) reading
+      (λ c read fits. no-numbers) (λ c read small e. (c, read, small, sym (both-same e .1)))
+      (λ refusal read e. absurd (other (ap readingNumbers read ∙ e))),
+  λ h.
+      planned-cases planner place (λ left. plannedNumbers (left .answer) ≡ 13 ∷ at ∷ []) reading
+      (λ c read fits. let same : c ≡ h .0 = cc in absurd (omega (arith, h .2, ap (λ (d : Contents). length (scriptField (planner d))) same)))
+      (λ c read small. let same : c ≡ h .0 = cc in rw (same, ← h .3))
+      (λ refusal read. absurd (let z : _≡_ {A = ℕ} 0 1 = cc in omega arith)),
+)
+
+pub refused-for-reading : RefusedForReading
+unfolding plannedNumbers readingNumbers refusalNumbers
+refused-for-reading planner reading place number at other = (
+  planned-cases planner place (λ left. plannedNumbers (left .answer) ≡ number ∷ at ∷ [] → readingNumbers reading ≡ number ∷ at ∷ []) reading
+      (λ c read fits. no-numbers) (λ c read small e. absurd (other (sym (both-same e .0))))
+      (λ refusal read e. ap readingNumbers read ∙ e),
+  λ turned.
+      planned-cases planner place (λ left. plannedNumbers (left .answer) ≡ number ∷ at ∷ []) reading
+      (λ c read fits. no-numbers (sym (ap readingNumbers read) ∙ turned))
+      (λ c read small. no-numbers (sym (ap readingNumbers read) ∙ turned))
+      (λ refusal read. sym (ap readingNumbers read) ∙ turned),
+)
 
 pub room-for-every : RoomForEvery
 unfolding scriptField madeOne madeOneOf madeTwo madeTwoOf

@@ -2,12 +2,13 @@
 use Prim.Native.Nat.{ℕ}
 use mathlib.Core.Path.{_≡_}
 use mathlib.Core.Bool.{Bool, true, false, cond}
-use mathlib.Core.List.{List}
+use mathlib.Core.List.{List, []}
 use mathlib.Core.Option.{Option, none, some}
 use lib.ListN.{length}
 use lib.Dec.{leb}
 use Rattle.policy.specs.AppendDelete.{keptRun, planOne}
 use Rattle.policy.specs.InsertDeleteMove.{keptTwo, planTwo}
+use Rattle.deployment.specs.Checked.{refusalNumbers}
 use Rattle.deployment.specs.Values.{Script, numbersOf, scriptBytes}
 use Rattle.deployment.specs.Contents.{Contents}
 use Rattle.deployment.specs.File.{Reading, accepted, refused, fieldBytes, script-tag}
@@ -60,6 +61,11 @@ planOf made = record { kept = made .kept; commands = length (made .script .comma
 pub record Placed (made : Made) (plan : Plan) (before after : List ℕ) : Type 0 where
   pub answer : plan ≡ planOf made
   pub place : after ≡ filled before (scriptField made)
+
+-- the numbers of a refusal to plan; none where there is a plan
+unfoldable pub plannedNumbers : Planned → List ℕ
+plannedNumbers (Done plan) = []
+plannedNumbers (Turned refusal) = refusalNumbers refusal
 
 -- an answer, and the lent place then
 pub record Left : Type 0 where

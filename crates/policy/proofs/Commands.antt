@@ -12,8 +12,9 @@ use lib.Dec.{ltb, leb}
 use lib.ListN.{length, take, drop, getD, length-append, take-append-drop}
 use lib.Seq.{length-take-le, split-at, take-append-seam, drop-append-seam, drop-append-add, getD-append-seam}
 use Rattle.policy.specs.Lists.{mem, before, after}
-use Rattle.policy.specs.Command.{ruleAt, lifted, placed, moved, passed, failed, needs, within, step}
-use Rattle.policy.specs.Properties.{In, Distinct, Off, Fails, Makes}
+use Rattle.policy.specs.Command.{ruleAt, lifted, placed, moved, passed, failed, needs, within, step, faultNumber}
+use Rattle.policy.specs.Properties.{In, Distinct, Outside, Off, OffRange, AlreadyThere, NotThere, Makes}
+use Rattle.policy.specs.Properties.{Fails, outside, off-range, already-there, not-there}
 use Rattle.policy.specs.Claims.{Policy}
 use Rattle.policy.specs.declared.Command.{Command}
 use Rattle.policy.specs.declared.Command.the-variants.{App, DelRule, Ins, DelPlace, Mov}
@@ -23,6 +24,7 @@ use Rattle.policy.proofs.Tests.{byTest, never, and-both, both-and, fals
 use Rattle.policy.proofs.Lists.{mem-in, in-mem, not-mem, not-in, length-around, in-middle, in-around, around-cases}
 use Rattle.policy.proofs.Lists.{before-after, not-before, without-at}
 use Rattle.policy.proofs.Order.{distinct-around, around-distinct}
+use Rattle.policy.proofs.Numbers.{fault-numbers-differ, fault-below}
 
 -- A place in its range, and off it.
 within-on : (i top : ℕ) → within i top ≡ true → (1 ≤ i) × (i ≤ top)
@@ -88,36 +90,36 @@ moved-at u x v p q at is to again = rw (rule-at u x v at is) (placed-at x p q to
 
 -- Every command makes a list or fails with a fault ..
 pub makes-or-fails : (size : ℕ) (l : List ℕ) (c : Command)
-    → ((m : List ℕ) × Makes size l c m) ⊎ ((fault : Fault) × Fails size l c fault)
+    → ((m : List ℕ) × Makes size l c m) ⊎ ((fault : Fault) × Fails size l c (faultNumber fault))
 makes-or-fails size l (App r) =
     byTest (ltb r size)
     (λ t. let inside : r < size = ltb-true r size t in
     byTest (mem r l)
-    (λ h. inr (Present, ((λ o. omega arith), (λ o. o), mem-in r l h)))
+    (λ h. inr (Present, already-there (λ o. omega arith) (λ o. o) (mem-in r l h)))
     (λ n. inl (l ++ (r ∷ []), (inside, not-mem r l n, refl))))
-    (λ f. inr (Number, ltb-false r size f))
+    (λ f. inr (Number, outside (ltb-false r size f)))
 makes-or-fails size l (DelRule r) =
     byTest (ltb r size)
     (λ t. let inside : r < size = ltb-true r size t in
     byTest (mem r l)
     (λ h. inl (before r l ++ after r l, (before r l, after r l, inside, not-before r l, before-after r l (mem-in r l h), refl)))
-    (λ n. inr (Absent, ((λ o. omega arith), (λ o. o), not-mem r l n))))
-    (λ f. inr (Number, ltb-false r size f))
+    (λ n. inr (Absent, not-there (λ o. omega arith) (λ o. o) (not-mem r l n))))
+    (λ f. inr (Number, outside (ltb-false r size f)))
 makes-or-fails size l (Ins i r) =
     byTest (ltb r size)
     (λ t. let inside : r < size = ltb-true r size t in
     byTest (within i (suc (length l)))
     (λ w. byTest (mem r l)
-    (λ h. inr (Present, ((λ o. omega arith), (λ o. never w (off-within i (suc (length l)) o)), mem-in r l h)))
+    (λ h. inr (Present, already-there (λ o. omega arith) (λ o. never w (off-within i (suc (length l)) o)) (mem-in r l h)))
     (λ n. let at = cut-between i l w in
     inl (at .0 ++ (r ∷ at .1), (at .0, at .1, inside, not-mem r l n, at .2, at .3, refl))))
-    (λ f. inr (Place, ((λ o. omega arith), within-off i (suc (length l)) f))))
-    (λ f. inr (Number, ltb-false r size f))
+    (λ f. inr (Place, off-range (λ o. omega arith) (within-off i (suc (length l)) f))))
+    (λ f. inr (Number, outside (ltb-false r size f)))
 makes-or-fails size l (DelPlace i) =
     byTest (within i (length l))
     (λ w. let at = cut-around i l w in
     inl (at .0 ++ at .2, (at .0, at .1, at .2, at .3, at .4, refl)))
-    (λ f. inr (Place, ((λ o. o), within-off i (length l) f)))
+    (λ f. inr (Place, off-range (λ o. o) (within-off i (length l) f)))
 makes-or-fails size l (Mov i j) =
     byTest (within i (length l))
     (λ w. byTest (within j (length l))
@@ -125,8 +127,8 @@ makes-or-fails size l (Mov i j) =
     let longer : length l ≡ suc (length (at .0 ++ at .2)) = ap length (at .4) ∙ length-around (at .1) (at .0) (at .2) in
     let to = cut-between j (at .0 ++ at .2) (rw longer at y) in
     inl (to .0 ++ (at .1 ∷ to .1), (at .0, at .1, at .2, to .0, to .1, at .3, at .4, to .2, to .3, refl)))
-    (λ f. inr (Place, ((λ o. o), inr (within-off j (length l) f)))))
-    (λ f. inr (Place, ((λ o. o), inl (within-off i (length l) f))))
+    (λ f. inr (Place, off-range (λ o. o) (inr (within-off j (length l) f)))))
+    (λ f. inr (Place, off-range (λ o. o) (inl (within-off i (length l) f))))
 
 -- .. and the definition of a step agrees with both sentences.
 pub makes-passes : (size : ℕ) (l : List ℕ) (c : Command) (m : List ℕ) → Makes size l c m → step size l c ≡ passed m
@@ -146,37 +148,68 @@ makes-passes size l (Mov i j) m (u, x, v, p, q, at, is, to, again, made) =
     on-within j (length l) (omega arith) (omega (arith, ap length is, length-around x u v, ap length again, length-append p q)) in
     rw (on-around l u x v at is, on, moved-at u x v p q at is to again, made)
 
-pub fails-failed : (size : ℕ) (l : List ℕ) (c : Command) (fault : Fault) → Fails size l c fault → step size l c ≡ failed fault
-unfolding step needs
-fails-failed size l (App r) Number h = rw (le-ltb r size h)
-fails-failed size l (DelRule r) Number h = rw (le-ltb r size h)
-fails-failed size l (Ins i r) Number h = rw (le-ltb r size h)
-fails-failed size l (DelPlace i) Number h = absurd h
-fails-failed size l (Mov i j) Number h = absurd h
-fails-failed size l (App r) Place h = absurd (h .1)
-fails-failed size l (DelRule r) Place h = absurd (h .1)
-fails-failed size l (Ins i r) Place h = rw (not-outside r size (h .0), off-within i (suc (length l)) (h .1))
-fails-failed size l (DelPlace i) Place h = rw (off-within i (length l) (h .1))
-fails-failed size l (Mov i j) Place h =
-    ⊎-elim (λ o. rw (off-within i (length l) o))
-    (λ o. byTest (within i (length l)) (λ t. rw (t, off-within j (length l) o)) (λ f. rw f))
-    (h .1)
-fails-failed size l (App r) Present h = rw (not-outside r size (h .0), in-mem r l (h .2))
-fails-failed size l (DelRule r) Present h = absurd (h .2)
-fails-failed size l (Ins i r) Present h = rw (not-outside r size (h .0), not-off i (suc (length l)) (h .1), in-mem r l (h .2))
-fails-failed size l (DelPlace i) Present h = absurd (h .2)
-fails-failed size l (Mov i j) Present h = absurd (h .2)
-fails-failed size l (App r) Absent h = absurd (h .2)
-fails-failed size l (DelRule r) Absent h = rw (not-outside r size (h .0), not-in r l (h .2))
-fails-failed size l (Ins i r) Absent h = absurd (h .2)
-fails-failed size l (DelPlace i) Absent h = absurd (h .2)
-fails-failed size l (Mov i j) Absent h = absurd (h .2)
+module _ (size : ℕ) (l : List ℕ) where
+  outside-fails : (c : Command) → Outside size c → step size l c ≡ failed Number
+  unfolding step needs
+  outside-fails (App r) o = rw (le-ltb r size o)
+  outside-fails (DelRule r) o = rw (le-ltb r size o)
+  outside-fails (Ins i r) o = rw (le-ltb r size o)
+  outside-fails (DelPlace i) o = absurd o
+  outside-fails (Mov i j) o = absurd o
+
+  off-range-fails : (c : Command) → ¬ Outside size c → OffRange l c → step size l c ≡ failed Place
+  unfolding step needs
+  off-range-fails (App r) n o = absurd o
+  off-range-fails (DelRule r) n o = absurd o
+  off-range-fails (Ins i r) n o = rw (not-outside r size n, off-within i (suc (length l)) o)
+  off-range-fails (DelPlace i) n o = rw (off-within i (length l) o)
+  off-range-fails (Mov i j) n o =
+      ⊎-elim (λ first. rw (off-within i (length l) first))
+      (λ second. byTest (within i (length l)) (λ t. rw (t, off-within j (length l) second)) (λ f. rw f))
+      o
+
+  already-there-fails : (c : Command) → ¬ Outside size c → ¬ OffRange l c → AlreadyThere l c → step size l c ≡ failed Present
+  unfolding step needs
+  already-there-fails (App r) n on there = rw (not-outside r size n, in-mem r l there)
+  already-there-fails (DelRule r) n on there = absurd there
+  already-there-fails (Ins i r) n on there = rw (not-outside r size n, not-off i (suc (length l)) on, in-mem r l there)
+  already-there-fails (DelPlace i) n on there = absurd there
+  already-there-fails (Mov i j) n on there = absurd there
+
+  not-there-fails : (c : Command) → ¬ Outside size c → ¬ OffRange l c → NotThere l c → step size l c ≡ failed Absent
+  unfolding step needs
+  not-there-fails (App r) n on lacks = absurd lacks
+  not-there-fails (DelRule r) n on lacks = rw (not-outside r size n, not-in r l lacks)
+  not-there-fails (Ins i r) n on lacks = absurd lacks
+  not-there-fails (DelPlace i) n on lacks = absurd lacks
+  not-there-fails (Mov i j) n on lacks = absurd lacks
+
+  -- the fault that a number stands for
+  pub fails-with : (c : Command) (n : ℕ) → Fails size l c n → (fault : Fault) × (faultNumber fault ≡ n) × (step size l c ≡ failed fault)
+  fails-with c n (outside o) = (Number, refl, outside-fails c o)
+  fails-with c n (off-range i o) = (Place, refl, off-range-fails c i o)
+  fails-with c n (already-there i o there) = (Present, refl, already-there-fails c i o there)
+  fails-with c n (not-there i o lacks) = (Absent, refl, not-there-fails c i o lacks)
+
+  pub fails-below : (c : Command) (n : ℕ) → Fails size l c n → n < 24
+  fails-below c n h = let (fault, is, fails) = fails-with c n h in rw is at (fault-below fault)
+
+  pub fails-failed : (c : Command) (fault : Fault) → Fails size l c (faultNumber fault) → step size l c ≡ failed fault
+  fails-failed c fault h =
+      let (with, is, fails) = fails-with c (faultNumber fault) h in fails ∙ ap failed (fault-numbers-differ with fault is)
 
 pub passes-makes : (size : ℕ) (l : List ℕ) (c : Command) (m : List ℕ) → step size l c ≡ passed m → Makes size l c m
 passes-makes size l c m e =
     ⊎-elim
     (λ h. let same : h .0 ≡ m = cc (makes-passes size l c (h .0) (h .1)) in rw same at (h .1))
     (λ h. let clash : _≡_ {A = ℕ} 0 1 = cc (fails-failed size l c (h .0) (h .1)) in absurd (omega arith))
+    (makes-or-fails size l c)
+
+pub failed-fails : (size : ℕ) (l : List ℕ) (c : Command) (fault : Fault) → step size l c ≡ failed fault → Fails size l c (faultNumber fault)
+failed-fails size l c fault e =
+    ⊎-elim
+    (λ h. let clash : _≡_ {A = ℕ} 0 1 = cc (makes-passes size l c (h .0) (h .1)) in absurd (omega arith))
+    (λ h. let same : h .0 ≡ fault = cc (fails-failed size l c (h .0) (h .1)) in rw same at (h .1))
     (makes-or-fails size l c)
 
 pub makes-unique : (size : ℕ) (l : List ℕ) (c : Command) (m n : List ℕ) → Makes size l c m → Makes size l c n → m ≡ n

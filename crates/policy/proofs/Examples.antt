@@ -10,10 +10,10 @@ use Rattle.policy.specs.InsertDeleteMove.{ownChoice, keptTwo, inserted, 
 use Rattle.policy.specs.InsertDeleteMove.{stageOne, firstStage, ahead, stageTwo, secondStage, planTwo}
 use Rattle.policy.specs.Judge.{supportedBy, supported, full, firstFailing, firstUnsupported, firstUnordered, judged}
 use Rattle.policy.specs.Judge.{verdict, verdictNumbers}
-use Rattle.policy.specs.Cases.{size, sameCoded, sameScript, sameOutcome, holds, failing, port-zero, tunnel, cases, Examples}
+use Rattle.policy.specs.Cases.{size, sameCoded, sameScript, hasMade, hasFailed, holds, failing, port-zero, tunnel, cases, Examples}
 
 pub examples : Examples
-unfolding cases failing holds size sameCoded sameScript sameOutcome sameAction port-zero tunnel
+unfolding cases failing holds size sameCoded sameScript hasMade hasFailed sameAction port-zero tunnel
     all pick mem contains before after without missing same hits says matches lies decide decideFrom matching
     step needs within ruleAt lifted placed moved coded replay replayFrom lists keptRun planOne
     ownChoice keptTwo inserted reached moveUp already raised left takeOne stageOne firstStage ahead stageTwo secondStage planTwo

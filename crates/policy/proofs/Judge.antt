@@ -5,25 +5,29 @@ use native.Mathlib.Nat.{add-zero, zero-add, not-suc-le-zero, le-of-suc-le-suc}
 use native.Mathlib.Omega.{arith}
 use mathlib.Core.Path.{_≡_, refl, sym, _∙_, ap, subst}
 use mathlib.Core.Bool.{Bool, true, false}
-use mathlib.Core.Logic.{_⊎_, inl, inr, ⊎-elim, ⊎-map, _≢_}
+use mathlib.Core.Logic.{_⊎_, inl, inr, ⊎-elim, ⊎-map, _↔_, _≢_}
 use mathlib.Core.List.{List, [], _∷_}
 use mathlib.Core.Option.{none, some}
 use lib.ListN.{length, take, drop, getD, length-append}
 use lib.Seq.{length-take-le, split-at, getD-append-seam}
 use Rattle.policy.specs.Lists.{all, mem, contains, before, same}
+use Rattle.policy.specs.Command.{faultNumber}
 use Rattle.policy.specs.Replay.{lists}
 use Rattle.policy.specs.Judge.{supportedBy, supported, ordered, full, firstFailing, firstUnsupported, firstUnordered}
-use Rattle.policy.specs.Judge.{judged, verdict}
+use Rattle.policy.specs.Judge.{judged, verdict, verdictNumbers}
 use Rattle.policy.specs.Properties.{In, Distinct, SupportedBy, Supported, Ordered, Full, Leads, After, StandsAt}
 use Rattle.policy.specs.Claims.{BreaksAt, VerdictBroken, VerdictElsewhere, FirstUnsupported, FirstUnordered}
 use Rattle.policy.specs.Claims.{VerdictUnordered, AllOrdered, VerdictNotFull, VerdictSafe}
 use Rattle.policy.specs.declared.Command.{Command}
+use Rattle.policy.specs.declared.Fault.{Fault}
 use Rattle.policy.specs.declared.Verdict.{Verdict}
 use Rattle.policy.specs.declared.Verdict.the-variants.{Broken, Elsewhere, Unordered, NotFull, Safe}
 use Rattle.policy.proofs.Tests.{byTest, never, and-both, both-and, or-either, either-or, falsely, not-first, not-second}
+use Rattle.policy.proofs.Numbers.{verdict-numbers-differ}
 use Rattle.policy.proofs.Lists.{mem-in, in-mem, place-in, all-in, in-all, contains-within, within-contains, same-eq}
 use Rattle.policy.proofs.Lists.{same-refl, in-middle}
 use Rattle.policy.proofs.Order.{before-precedes, precedes-before}
+use Rattle.policy.proofs.Commands.{fails-with}
 use Rattle.policy.proofs.Replay.{leads-replays, breaks-replays, leads-or-breaks, lists-are-after, lists-after}
 use Rattle.policy.proofs.Replay.{after-distinct}
 
@@ -203,7 +207,7 @@ module _ (size : ℕ) (initial target : List ℕ) (script : List Command) where
   way = lists size initial script
 
   abbrev Row : Verdict → Type 0
-  Row (Broken fault at) = BreaksAt size initial script fault at
+  Row (Broken fault at) = BreaksAt size initial script (faultNumber fault) at
   Row (Elsewhere n) = (l : List ℕ) × (n ≡ length script) × Leads size initial script l × (l ≢ target)
   Row (Unordered at place) =
       Leads size initial script target
@@ -319,54 +323,99 @@ module _ (size : ℕ) (initial target : List ℕ) (script : List Command) where
           rw is (unsupported-complete initial target di dt l d place u),
         )
 
--- The claims.
+-- The verdicts by their cases.
+module _ (size : ℕ) (initial target : List ℕ) (script : List Command) (di : Distinct initial) (dt : Distinct target) where
+  unordered-case : (at place : ℕ) → (verdict size initial target script ≡ Unordered at place)
+      ↔ (Leads size initial script target × FirstUnordered size initial target script at place)
+  unordered-case at place = (
+    λ e. let row = verdict-row size initial target script (Unordered at place) e in
+        (row .0, unordered-sound size initial target script di dt at place row),
+    λ (leads, first).
+        row-verdict size initial target script (Unordered at place)
+        (unordered-complete size initial target script di dt at place leads first),
+  )
+
+  not-full-case : (verdict size initial target script ≡ NotFull)
+      ↔ (Leads size initial script target
+      × AllOrdered size initial target script
+      × ((k : ℕ) × (l : List ℕ) × After size initial script k l × ¬ Full initial target l))
+  not-full-case = (
+    λ e. let (leads, o, f) = verdict-row size initial target script NotFull e in
+        (leads, all-ordered-sound size initial target script di dt o, not-full-sound size initial target script leads f),
+    λ (leads, o, (k, l, h, lacking)).
+        row-verdict size initial target script NotFull (
+          leads,
+          all-ordered-complete size initial target script di dt leads o,
+          falsely (λ t. lacking (all-full-sound size initial target script t k l h)),
+        ),
+  )
+
+  safe-case : (verdict size initial target script ≡ Safe)
+      ↔ (Leads size initial script target
+      × AllOrdered size initial target script
+      × ((k : ℕ) (l : List ℕ) → After size initial script k l → Full initial target l))
+  safe-case = (
+    λ e. let (leads, o, f) = verdict-row size initial target script Safe e in
+        (leads, all-ordered-sound size initial target script di dt o, all-full-sound size initial target script f),
+    λ (leads, o, f).
+        row-verdict size initial target script Safe (
+          leads,
+          all-ordered-complete size initial target script di dt leads o,
+          test-way size initial target script (full initial target) leads (λ k l h. full-complete initial target l (f k l h)),
+        ),
+  )
+
+-- The claims: the cases by their numbers.
+by-number : {P : Type 0} (w v : Verdict) → (w ≡ v) ↔ P → (verdictNumbers w ≡ verdictNumbers v) ↔ P
+by-number w v case = (λ e. case .0 (verdict-numbers-differ w v e), λ p. ap verdictNumbers (case .1 p))
+
+-- a verdict whose number is below 24 and has one value is a replay that breaks
+broken-number : (v : Verdict) (number at : ℕ) → number < 24 → verdictNumbers v ≡ number ∷ at ∷ []
+    → (fault : Fault) × (faultNumber fault ≡ number) × (v ≡ Broken fault at)
+unfolding verdictNumbers
+broken-number (Broken fault step) number at below e = (fault, cc, ap (Broken fault) (cc))
+broken-number (Elsewhere n) number at below e = let first : _≡_ {A = ℕ} 24 number = cc in absurd (omega arith)
+broken-number (Unordered step place) number at below e = let first : _≡_ {A = ℕ} 30 number = cc in absurd (omega arith)
+broken-number NotFull number at below e = let first : _≡_ {A = ℕ} 31 number = cc in absurd (omega arith)
+broken-number Safe number at below e = let first : _≡_ {A = ℕ} 32 number = cc in absurd (omega arith)
+
 pub verdict-broken : VerdictBroken
-verdict-broken size initial target script fault at =
-    (verdict-row size initial target script (Broken fault at), row-verdict size initial target script (Broken fault at))
+unfolding verdictNumbers
+verdict-broken size initial target script number at below = (
+  λ e. let (fault, is, broken) = broken-number (verdict size initial target script) number at below e in
+      rw is at (verdict-row size initial target script (Broken fault at) broken),
+  λ b. let (fault, is, fails) = fails-with size (b .running) (b .failing) number (b .fails) in
+      ap verdictNumbers (row-verdict size initial target script (Broken fault at) (rw is b)) ∙ rw is,
+)
 
 pub verdict-elsewhere : VerdictElsewhere
+unfolding verdictNumbers
 verdict-elsewhere size initial target script n =
+    by-number (verdict size initial target script) (Elsewhere n)
     (verdict-row size initial target script (Elsewhere n), row-verdict size initial target script (Elsewhere n))
 
 pub verdict-unordered : VerdictUnordered
-verdict-unordered size initial target script at place di dt = (
-  λ e. let row = verdict-row size initial target script (Unordered at place) e in
-      (row .0, unordered-sound size initial target script di dt at place row),
-  λ (leads, first).
-      row-verdict size initial target script (Unordered at place)
-      (unordered-complete size initial target script di dt at place leads first),
-)
+unfolding verdictNumbers
+verdict-unordered size initial target script at place di dt =
+    by-number (verdict size initial target script) (Unordered at place) (unordered-case size initial target script di dt at place)
 
 pub verdict-not-full : VerdictNotFull
-verdict-not-full size initial target script di dt = (
-  λ e. let (leads, o, f) = verdict-row size initial target script NotFull e in
-      (leads, all-ordered-sound size initial target script di dt o, not-full-sound size initial target script leads f),
-  λ (leads, o, (k, l, h, lacking)).
-      row-verdict size initial target script NotFull (
-        leads,
-        all-ordered-complete size initial target script di dt leads o,
-        falsely (λ t. lacking (all-full-sound size initial target script t k l h)),
-      ),
-)
+unfolding verdictNumbers
+verdict-not-full size initial target script di dt =
+    by-number (verdict size initial target script) NotFull (not-full-case size initial target script di dt)
 
 pub verdict-safe : VerdictSafe
-verdict-safe size initial target script di dt = (
-  λ e. let (leads, o, f) = verdict-row size initial target script Safe e in
-      (leads, all-ordered-sound size initial target script di dt o, all-full-sound size initial target script f),
-  λ (leads, o, f).
-      row-verdict size initial target script Safe (
-        leads,
-        all-ordered-complete size initial target script di dt leads o,
-        test-way size initial target script (full initial target) leads (λ k l h. full-complete initial target l (f k l h)),
-      ),
-)
+unfolding verdictNumbers
+verdict-safe size initial target script di dt =
+    by-number (verdict size initial target script) Safe (safe-case size initial target script di dt)
 
 -- a script of which only the order is known gets one of the last two verdicts
 pub all-ordered-passes : (size : ℕ) (initial target : List ℕ) (script : List Command) → Distinct initial → Distinct target
     → Leads size initial script target → AllOrdered size initial target script
-    → (verdict size initial target script ≡ NotFull) ⊎ (verdict size initial target script ≡ Safe)
+    → (verdictNumbers (verdict size initial target script) ≡ 31 ∷ []) ⊎ (verdictNumbers (verdict size initial target script) ≡ 32 ∷ [])
+unfolding verdictNumbers
 all-ordered-passes size initial target script di dt leads o =
     let found = all-ordered-complete size initial target script di dt leads o in
     byTest (all (full initial target) (lists size initial script))
-    (λ t. inr (row-verdict size initial target script Safe (leads, found, t)))
-    (λ f. inl (row-verdict size initial target script NotFull (leads, found, f)))
+    (λ t. inr (ap verdictNumbers (row-verdict size initial target script Safe (leads, found, t))))
+    (λ f. inl (ap verdictNumbers (row-verdict size initial target script NotFull (leads, found, f))))

@@ -1,4 +1,5 @@
 pub mod Tests
+pub mod Numbers
 pub mod Lists
 pub mod Order
 pub mod Counting

@@ -11,13 +11,14 @@ use lib.ListN.{length}
 use Rattle.policy.specs.Lists.{mem, after}
 use Rattle.policy.specs.AppendDelete.{planOne}
 use Rattle.policy.specs.InsertDeleteMove.{ownChoice, keptTwo, planTwo}
-use Rattle.policy.specs.Judge.{verdict}
+use Rattle.policy.specs.Judge.{verdict, verdictNumbers}
 use Rattle.policy.specs.Properties.{In, Distinct, After}
 use Rattle.policy.specs.Claims.{Policy, SafeDecidesAsOne, NotFullKeepsTheDefault, PlanOneVerdict, PlanOneKeepsTheDefault}
 use Rattle.policy.specs.Claims.{PlanTwoVerdict, PlanTwoChangesOnce, NothingToDo, PlansFit}
 use Rattle.policy.specs.declared.Command.{Command}
 use Rattle.policy.specs.declared.Verdict.the-variants.{Safe}
 use Rattle.policy.proofs.Tests.{or-left}
+use Rattle.policy.proofs.Numbers.{verdict-numbers-differ}
 use Rattle.policy.proofs.Lists.{length-nil}
 use Rattle.policy.proofs.Counting.{common-occurring}
 use Rattle.policy.proofs.Way.{Forward, Orderly, Sound, initial-sound, Steps, steps-leads}
@@ -59,7 +60,8 @@ plan-one-keeps-the-default size initial target first last m ei et k l after =
 
 -- The lists of the script for insert, delete and move are ordered and full.
 sound-safe : (size : ℕ) (initial target : List ℕ) (script : List Command) → Distinct initial → Distinct target
-    → Steps (Sound initial target) (Forward initial target) size initial script target → verdict size initial target script ≡ Safe
+    → Steps (Sound initial target) (Forward initial target) size initial script target
+    → verdictNumbers (verdict size initial target script) ≡ 32 ∷ []
 sound-safe size initial target script di dt steps =
     let sound = steps-after (Sound initial target) (Forward initial target) size initial target script steps in
     verdict-safe size initial target script di dt .1 (
@@ -108,10 +110,12 @@ plan-two-nothing initial d =
     (omega (arith, count, ap length (common-occurring (Sublistᴰ·refl initial) d), ap length (own-choice-self initial)))
 
 pub nothing-to-do : NothingToDo
+unfolding verdictNumbers
 nothing-to-do size initial d = (
   plan-one-nothing initial d,
   plan-two-nothing initial d,
-  sound-safe size initial initial [] d d (initial-sound initial initial d, refl),
+  verdict-numbers-differ (verdict size initial initial []) Safe
+      (sound-safe size initial initial [] d d (initial-sound initial initial d, refl)),
 )
 
 -- "A planned script .. never exceeds 1,024 commands"

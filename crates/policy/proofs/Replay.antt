@@ -7,6 +7,7 @@ use mathlib.Core.Path.{_≡_, refl, _∙_, ap}
 use mathlib.Core.Logic.{_⊎_, inl, inr, ⊎-elim}
 use mathlib.Core.List.{List, [], _∷_, _++_, append-nil}
 use lib.ListN.{length, take, getD}
+use Rattle.policy.specs.Command.{faultNumber}
 use Rattle.policy.specs.Replay.{ended, broken, replayFrom, replay, lists}
 use Rattle.policy.specs.Properties.{Distinct, Makes, Leads, After}
 use Rattle.policy.specs.Claims.{Policy, ReplayIsLeads, ListsAreAfter, BreaksAt, RunningListFits}
@@ -30,7 +31,7 @@ unfolding replay replayFrom
 leads-replays size l n script h = rw append-nil at (replays-past size 0 l n script [] h)
 
 pub breaks-replays : (size : ℕ) (l : List ℕ) (script : List Command) (fault : Fault) (at : ℕ)
-    → BreaksAt size l script fault at → replay size l script ≡ broken fault at
+    → BreaksAt size l script (faultNumber fault) at → replay size l script ≡ broken fault at
 unfolding replay replayFrom
 breaks-replays size l script fault at b =
     rw (
@@ -43,7 +44,7 @@ breaks-replays size l script fault at b =
     )
 
 pub leads-or-breaks : (size : ℕ) (l : List ℕ) (script : List Command)
-    → ((n : List ℕ) × Leads size l script n) ⊎ ((fault : Fault) × (at : ℕ) × BreaksAt size l script fault at)
+    → ((n : List ℕ) × Leads size l script n) ⊎ ((fault : Fault) × (at : ℕ) × BreaksAt size l script (faultNumber fault) at)
 leads-or-breaks size l [] = inl (l, refl)
 leads-or-breaks size l (c ∷ script) =
     ⊎-elim
@@ -89,6 +90,17 @@ replay-is-leads size initial l script = (
       (leads-or-breaks size initial script),
   leads-replays size initial l script,
 )
+
+pub replays-breaks : (size : ℕ) (l : List ℕ) (script : List Command) (fault : Fault) (at : ℕ)
+    → replay size l script ≡ broken fault at → BreaksAt size l script (faultNumber fault) at
+replays-breaks size l script fault at e =
+    ⊎-elim
+    (λ h. let clash : _≡_ {A = ℕ} 0 1 = cc (leads-replays size l (h .0) script (h .1)) in absurd (omega arith))
+    (λ h. let is = breaks-replays size l script (h .0) (h .1) (h .2) in
+    let why : h .0 ≡ fault = cc in
+    let where-to : h .1 ≡ at = cc in
+    rw where-to at (rw why at (h .2)))
+    (leads-or-breaks size l script)
 
 -- The lists on the way.
 pub lists-are-after : ListsAreAfter

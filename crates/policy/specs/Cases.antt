@@ -17,8 +17,6 @@ use Rattle.policy.specs.declared.Action.{Action}
 use Rattle.policy.specs.declared.Action.the-variants.{Deny, Permit}
 use Rattle.policy.specs.declared.Command.{Command}
 use Rattle.policy.specs.declared.Command.the-variants.{App, DelRule, Ins, DelPlace, Mov}
-use Rattle.policy.specs.declared.Fault.{Fault}
-use Rattle.policy.specs.declared.Fault.the-variants.{Place}
 use Rattle.policy.specs.declared.Flow.{Flow}
 
 -- what a case says
@@ -29,8 +27,10 @@ pub data Case : Type 0 where
   insert-delete-move : List ℕ → List ℕ → Option (List ℕ) → List ℕ → List Command → Case
   -- initial, target, script: the verdict's number and values
   judge : List ℕ → List ℕ → List Command → List ℕ → Case
-  -- a running list, a command, what it gives
-  command : List ℕ → Command → Outcome → Case
+  -- a running list, a command that passes, the list that it makes
+  passes : List ℕ → Command → List ℕ → Case
+  -- a running list, a command that fails, its number
+  fails : List ℕ → Command → ℕ → Case
   -- a catalogue, a policy, a flow: the action and the place
   decision : List Rule → List ℕ → Flow → Action → ℕ → Case
 
@@ -46,11 +46,13 @@ sameScript [] (d ∷ t) = false
 sameScript (c ∷ s) [] = false
 sameScript (c ∷ s) (d ∷ t) = sameCoded (coded c) (coded d) && sameScript s t
 
-unfoldable pub sameOutcome : Outcome → Outcome → Bool
-sameOutcome (passed l) (passed m) = same l m
-sameOutcome (passed l) (failed g) = false
-sameOutcome (failed f) (passed m) = false
-sameOutcome (failed f) (failed g) = eqb (faultNumber f) (faultNumber g)
+unfoldable pub hasMade : List ℕ → Outcome → Bool
+hasMade m (passed l) = same l m
+hasMade m (failed fault) = false
+
+unfoldable pub hasFailed : ℕ → Outcome → Bool
+hasFailed number (passed l) = false
+hasFailed number (failed fault) = eqb (faultNumber fault) number
 
 unfoldable pub holds : Case → Bool
 holds (append-delete initial target kept script) =
@@ -58,7 +60,8 @@ holds (append-delete initial target kept script) =
 holds (insert-delete-move initial target keep kept script) =
     same (keptTwo initial target keep) kept && sameScript (planTwo initial target keep) script
 holds (judge initial target script numbers) = same (verdictNumbers (verdict size initial target script)) numbers
-holds (command l c outcome) = sameOutcome (step size l c) outcome
+holds (passes l c m) = hasMade m (step size l c)
+holds (fails l c number) = hasFailed number (step size l c)
 holds (decision catalogue policy flow action place) =
     sameAction ((decide (matching catalogue flow) policy) .action) action
     && eqb ((decide (matching catalogue flow) policy) .place) place
@@ -105,8 +108,8 @@ cases any =
     ∷ judge (0 ∷ []) (1 ∷ []) (DelPlace 1 ∷ Ins 1 1 ∷ []) (31 ∷ [])
     ∷ judge (0 ∷ 1 ∷ 2 ∷ 3 ∷ []) (1 ∷ 0 ∷ 2 ∷ 3 ∷ [])
     (DelRule 1 ∷ App 1 ∷ DelRule 0 ∷ App 0 ∷ DelRule 2 ∷ App 2 ∷ DelRule 3 ∷ App 3 ∷ []) (30 ∷ 1 ∷ 2 ∷ [])
-    ∷ command (0 ∷ 1 ∷ []) (Mov 2 3) (failed Place)
-    ∷ command (0 ∷ 1 ∷ []) (Ins 3 2) (passed (0 ∷ 1 ∷ 2 ∷ []))
+    ∷ fails (0 ∷ 1 ∷ []) (Mov 2 3) 22
+    ∷ passes (0 ∷ 1 ∷ []) (Ins 3 2) (0 ∷ 1 ∷ 2 ∷ [])
     ∷ decision (port-zero ∷ []) [] any Deny 0
     ∷ decision (port-zero ∷ []) (0 ∷ []) tunnel Permit 1
     ∷ []

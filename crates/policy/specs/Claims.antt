@@ -10,16 +10,17 @@ use mathlib.Core.Option.{Option, none, some}
 use lib.ListN.{length, getD}
 use Rattle.policy.specs.Lists.{common}
 use Rattle.policy.specs.Policy.{Matching, decided, sameAction, most-rules, most-listed}
-use Rattle.policy.specs.Command.{ofType}
+use Rattle.policy.specs.Command.{ofType, faultNumber}
 use Rattle.policy.specs.Replay.{ended, replay, lists}
 use Rattle.policy.specs.AppendDelete.{keptRun, planOne}
 use Rattle.policy.specs.InsertDeleteMove.{keptTwo, planTwo, movesInPlace}
-use Rattle.policy.specs.Judge.{verdict}
+use Rattle.policy.specs.Judge.{verdict, verdictNumbers}
 use Rattle.policy.specs.Properties.{In, Distinct, Supported, Ordered, Full, Fails, Leads, After, StandsAt}
 use Rattle.policy.specs.declared.Command.{Command}
 use Rattle.policy.specs.declared.Command.the-variants.{Mov}
 use Rattle.policy.specs.declared.Fault.{Fault}
-use Rattle.policy.specs.declared.Verdict.the-variants.{Broken, Elsewhere, Unordered, NotFull, Safe}
+use Rattle.policy.specs.declared.Verdict.{Verdict}
+use Rattle.policy.specs.declared.Verdict.the-variants.{Safe}
 
 -- a policy that the reader accepts: its numbers are inside the catalogue (8), and no rule is named twice (9)
 pub record Policy (size : ℕ) (l : List ℕ) : Type 0 where
@@ -61,8 +62,16 @@ ListsAreAfter =
     (size : ℕ) (initial : List ℕ) (script : List Command) (k : ℕ) (l : List ℕ)
     → After size initial script k l → (k < length (lists size initial script)) × (getD (lists size initial script) k [] ≡ l)
 
+-- Numbers. Verdicts and faults are promised by document 01's numbers and their values, and no two answers share them: what is said of the
+-- numbers is said of the answer.
+abbrev pub FaultNumbersDiffer : Type 0
+FaultNumbersDiffer = (f g : Fault) → faultNumber f ≡ faultNumber g → f ≡ g
+
+abbrev pub VerdictNumbersDiffer : Type 0
+VerdictNumbersDiffer = (v w : Verdict) → verdictNumbers v ≡ verdictNumbers w → v ≡ w
+
 -- Verdicts 20 to 23: the first command that fails, its number and its step.
-pub record BreaksAt (size : ℕ) (initial : List ℕ) (script : List Command) (fault : Fault) (at : ℕ) : Type 0 where
+pub record BreaksAt (size : ℕ) (initial : List ℕ) (script : List Command) (number at : ℕ) : Type 0 where
   pub passed : List Command
   pub failing : Command
   pub others : List Command
@@ -70,18 +79,18 @@ pub record BreaksAt (size : ℕ) (initial : List ℕ) (script : List Command) (f
   pub is : script ≡ passed ++ (failing ∷ others)
   pub counted : at ≡ suc (length passed)
   pub leads : Leads size initial passed running
-  pub fails : Fails size running failing fault
+  pub fails : Fails size running failing number
 
 abbrev pub VerdictBroken : Type 0
 VerdictBroken =
-    (size : ℕ) (initial target : List ℕ) (script : List Command) (fault : Fault) (at : ℕ)
-    → (verdict size initial target script ≡ Broken fault at) ↔ BreaksAt size initial script fault at
+    (size : ℕ) (initial target : List ℕ) (script : List Command) (number at : ℕ) → number < 24
+    → (verdictNumbers (verdict size initial target script) ≡ number ∷ at ∷ []) ↔ BreaksAt size initial script number at
 
 -- Verdict 24: all commands pass, and the last list isn't the target.
 abbrev pub VerdictElsewhere : Type 0
 VerdictElsewhere =
     (size : ℕ) (initial target : List ℕ) (script : List Command) (n : ℕ)
-    → (verdict size initial target script ≡ Elsewhere n)
+    → (verdictNumbers (verdict size initial target script) ≡ 24 ∷ n ∷ [])
     ↔ ((l : List ℕ) × (n ≡ length script) × Leads size initial script l × (l ≢ target))
 
 -- Verdict 30: the replay reaches the target; the step is the first list that isn't ordered, the place its first unsupported one.
@@ -100,7 +109,7 @@ pub record FirstUnordered (size : ℕ) (initial target : List ℕ) (script : Lis
 abbrev pub VerdictUnordered : Type 0
 VerdictUnordered =
     (size : ℕ) (initial target : List ℕ) (script : List Command) (at place : ℕ) → Distinct initial → Distinct target
-    → (verdict size initial target script ≡ Unordered at place)
+    → (verdictNumbers (verdict size initial target script) ≡ 30 ∷ at ∷ place ∷ [])
     ↔ (Leads size initial script target × FirstUnordered size initial target script at place)
 
 -- every list on the way is ordered
@@ -111,7 +120,7 @@ AllOrdered size initial target script = (k : ℕ) (l : List ℕ) → After size 
 abbrev pub VerdictNotFull : Type 0
 VerdictNotFull =
     (size : ℕ) (initial target : List ℕ) (script : List Command) → Distinct initial → Distinct target
-    → (verdict size initial target script ≡ NotFull)
+    → (verdictNumbers (verdict size initial target script) ≡ 31 ∷ [])
     ↔ (Leads size initial script target
     × AllOrdered size initial target script
     × ((k : ℕ) × (l : List ℕ) × After size initial script k l × ¬ Full initial target l))
@@ -120,7 +129,7 @@ VerdictNotFull =
 abbrev pub VerdictSafe : Type 0
 VerdictSafe =
     (size : ℕ) (initial target : List ℕ) (script : List Command) → Distinct initial → Distinct target
-    → (verdict size initial target script ≡ Safe)
+    → (verdictNumbers (verdict size initial target script) ≡ 32 ∷ [])
     ↔ (Leads size initial script target
     × AllOrdered size initial target script
     × ((k : ℕ) (l : List ℕ) → After size initial script k l → Full initial target l))
@@ -129,7 +138,7 @@ VerdictSafe =
 abbrev pub SafeDecidesAsOne : Type 0
 SafeDecidesAsOne =
     (size : ℕ) (initial target : List ℕ) (script : List Command) → Distinct initial → Distinct target
-    → verdict size initial target script ≡ Safe
+    → verdictNumbers (verdict size initial target script) ≡ 32 ∷ []
     → (m : Matching) (k : ℕ) (l : List ℕ) → After size initial script k l
     → (decided m l ≡ decided m initial) ⊎ (decided m l ≡ decided m target)
 
@@ -143,7 +152,7 @@ KeepsTheDefault size initial target script =
 abbrev pub NotFullKeepsTheDefault : Type 0
 NotFullKeepsTheDefault =
     (size : ℕ) (initial target : List ℕ) (script : List Command) → Distinct initial → Distinct target
-    → verdict size initial target script ≡ NotFull → KeepsTheDefault size initial target script
+    → verdictNumbers (verdict size initial target script) ≡ 31 ∷ [] → KeepsTheDefault size initial target script
 
 -- Append and delete. What is kept is a front part of the target, occurs in order in the initial policy, and is the longest that does.
 abbrev pub KeptRunIsLongest : Type 0
@@ -175,7 +184,8 @@ PlanOneFewest =
 abbrev pub PlanOneVerdict : Type 0
 PlanOneVerdict =
     (size : ℕ) (initial target : List ℕ) → Policy size initial → Policy size target
-    → (verdict size initial target (planOne initial target) ≡ NotFull) ⊎ (verdict size initial target (planOne initial target) ≡ Safe)
+    → (verdictNumbers (verdict size initial target (planOne initial target)) ≡ 31 ∷ [])
+    ⊎ (verdictNumbers (verdict size initial target (planOne initial target)) ≡ 32 ∷ [])
 
 -- On its way it permits no flow that both lists deny (default deny).
 abbrev pub PlanOneKeepsTheDefault : Type 0
@@ -207,7 +217,7 @@ PlanTwoMoves =
 abbrev pub PlanTwoVerdict : Type 0
 PlanTwoVerdict =
     (size : ℕ) (initial target : List ℕ) (keep : Option (List ℕ)) → Accepted size initial target keep
-    → verdict size initial target (planTwo initial target keep) ≡ Safe
+    → verdictNumbers (verdict size initial target (planTwo initial target keep)) ≡ 32 ∷ []
 
 -- the first list, counted from 0, that decides the flow as the target does
 unfoldable pub changePoint : Matching → List ℕ → List (List ℕ) → ℕ

@@ -7,8 +7,6 @@ use mathlib.Core.List.{List, [], _∷_, _++_, List·Memᴰ}
 use lib.ListN.{length, take}
 use Rattle.policy.specs.declared.Command.{Command}
 use Rattle.policy.specs.declared.Command.the-variants.{App, DelRule, Ins, DelPlace, Mov}
-use Rattle.policy.specs.declared.Fault.{Fault}
-use Rattle.policy.specs.declared.Fault.the-variants.{Present, Absent, Place, Number}
 
 -- rule r is in the list
 abbrev pub In : ℕ → List ℕ → Type 0
@@ -80,12 +78,12 @@ NotThere l (Ins i r) = ⊥
 NotThere l (DelPlace i) = ⊥
 NotThere l (Mov i j) = ⊥
 
--- "In one command: 23, 22, then 20 or 21": when a command fails with which number
-abbrev pub Fails : ℕ → List ℕ → Command → Fault → Type 0
-Fails size l c Number = Outside size c
-Fails size l c Place = ¬ Outside size c × OffRange l c
-Fails size l c Present = ¬ Outside size c × ¬ OffRange l c × AlreadyThere l c
-Fails size l c Absent = ¬ Outside size c × ¬ OffRange l c × NotThere l c
+-- "In one command: 23, 22, then 20 or 21": when a command fails, and with which number
+pub data Fails (size : ℕ) (l : List ℕ) (c : Command) : ℕ → Type 0 where
+  outside : Outside size c → Fails size l c 23
+  off-range : ¬ Outside size c → OffRange l c → Fails size l c 22
+  already-there : ¬ Outside size c → ¬ OffRange l c → AlreadyThere l c → Fails size l c 20
+  not-there : ¬ Outside size c → ¬ OffRange l c → NotThere l c → Fails size l c 21
 
 -- what a command that passes makes of a list: each line is a sentence of 01, "Commands", by the shape of the two lists
 abbrev pub Makes : ℕ → List ℕ → Command → List ℕ → Type 0

@@ -2,29 +2,29 @@
 -- written are fields that were read to the end, so the laws of places hold of them. Assumes nothing.
 use Prim.Native.Nat.{ℕ, _*_}
 use mathlib.Core.Path.{_≡_, refl, sym, _∙_, ap}
-use mathlib.Core.List.{List, [], _++_, map, append-nil}
+use mathlib.Core.List.{List, [], _∷_, _++_, map, append-nil}
 use mathlib.Core.Option.{Option, none, some}
 use lib.ListN.{length, take}
 use lib.Seq.{take-at}
 use denote.Ref.{now}
+use Rattle.policy.specs.Rule.{Rule}
 use Rattle.policy.specs.Claims.{Keepable}
 use Rattle.deployment.specs.Bytes.{joined, chunks}
 use Rattle.deployment.specs.Values.{Script, ruleBytes, numbersOf, numbersBytes, scriptOf, scriptBytes}
 use Rattle.deployment.specs.Catalogue.{recordCount, recordsOf, catalogueOf}
 use Rattle.deployment.specs.Contents.{Contents}
 use Rattle.deployment.specs.File.{Reading, accepted, readFile, readToJudge, listed, fileOf, rule-tag, fieldBytes}
-use Rattle.deployment.specs.Properties.{AreBytes, IfThere, Scripted, Valid, TurnedAway, fieldsBytes}
-use Rattle.deployment.specs.declared.Refusal.{Refusal}
+use Rattle.deployment.specs.Properties.{AreBytes, IfThere, Scripted, Valid, fieldsBytes}
 use Rattle.deployment.proofs.Values.{length-numbers, policy-numbers, keep-numbers, length-script, script-read}
 use Rattle.deployment.proofs.ReadBack.{rules-length, fieldsOf, file-fields, read-back}
-use Rattle.deployment.proofs.Reader.{written-again, refusals}
-use Rattle.reader.specs.Answers.{valueAt, spanFrom, spanIf, keepBytes, commandBytes, layoutOf, shown, fileRead}
+use Rattle.deployment.proofs.Reader.{written-again}
+use Rattle.reader.specs.Answers.{valueAt, spanFrom, spanIf, keepBytes, commandBytes, layoutOf, ruleSpan, shown, fileRead}
 use Rattle.reader.specs.Steps.{layoutSoFar}
-use Rattle.reader.specs.Claims.{ListStands, ScriptStands, Stands, AcceptedFile, WrittenFile, RefusedFile}
+use Rattle.reader.specs.Claims.{ListStands, ScriptStands, Stands, AcceptedFile, WrittenFile}
 use Rattle.reader.specs.declared.Span.{Span}
 use Rattle.reader.specs.declared.Layout.{Layout}
 use Rattle.reader.specs.declared.FileRead.{FileRead}
-use Rattle.reader.specs.declared.FileRead.the-variants.{Accepted, Refused}
+use Rattle.reader.specs.declared.FileRead.the-variants.{Accepted}
 use Rattle.reader.proofs.Places.{
   initial-stands,
   target-stands,
@@ -32,8 +32,9 @@ use Rattle.reader.proofs.Places.{
   script-part-stands,
   catalogue-front,
   catalogue-first,
+  rule-stands,
 }
-use Rattle.reader.proofs.ShownReadings.{file-refused, shown-accepted}
+use Rattle.reader.proofs.ShownReadings.{shown-accepted}
 use Rattle.reader.proofs.ToJudge.{scripted}
 use Rattle.reader.proofs.file.read.Reads as read
 use Rattle.reader.proofs.file.read_to_judge.Reads as read-to-judge
@@ -81,6 +82,11 @@ module _ (c : Contents) (valid : Valid c) where
       ap (catalogueOf 3) (rules-alone ∙ sym (append-nil _))
       ∙ catalogue-front (c .catalogue) [] (valid .catalogue .recordable) ∙ append-nil (c .catalogue)
 
+  rule-there : (before : List Rule) (rule : Rule) (behind : List Rule) → c .catalogue ≡ before ++ (rule ∷ behind)
+      → valueAt (ruleSpan (length before)) (fileOf c) ≡ ruleBytes rule
+  unfolding fileOf
+  rule-there before rule behind is = rw is (rule-stands before rule behind _)
+
   catalogue-among : take (length (c .catalogue)) (catalogueOf 3 (fileOf c)) ≡ c .catalogue
   unfolding fieldsOf
   catalogue-among = rw (← bytes-of c) (catalogue-first (fieldsOf c) [] (valid .catalogue .recordable))
@@ -126,6 +132,7 @@ module _ (c : Contents) (valid : Valid c) where
         placed = refl;
         count = refl;
         catalogue = catalogue-alone;
+        rule = rule-there;
         among = catalogue-among;
         initial =
             a-list-stands (fileOf c) ((layoutOf c) .initial) (c .initial)
@@ -172,13 +179,6 @@ pub written-file : WrittenFile
 unfolding fileRead shown
 written-file c valid = rw (read-back c valid .1)
 
-pub refused-file : RefusedFile
-unfolding fileRead shown
-refused-file file refusal b = (
-  λ e. refusals file (refusal .why) (refusal .at) b .0 (file-refused file refusal (sym e)),
-  λ h. rw (refusals file (refusal .why) (refusal .at) b .1 h),
-)
-
 -- The claims, of `read`.
 pub accepted-file-is-written-again : (κ : _) (a : _) (layout : Layout) (e : _) → read.Post κ a (Accepted layout) e
     → AreBytes (now (a .0)) → (c : Contents) × Stands (now (a .0)) layout c
@@ -187,7 +187,3 @@ accepted-file-is-written-again κ a layout e p b = accepted-file (now (a .0)) la
 pub written-file-is-accepted : (κ : _) (a : _) (r : FileRead) (e : _) → read.Post κ a r e
     → (c : Contents) → Valid c → now (a .0) ≡ fileOf c → r ≡ Accepted (layoutOf c)
 written-file-is-accepted κ a r e p c valid is = p ∙ ap fileRead is ∙ written-file c valid
-
-pub refused-file-is-a-row : (κ : _) (a : _) (refusal : Refusal) (e : _) → read.Post κ a (Refused refusal) e
-    → AreBytes (now (a .0)) → TurnedAway (now (a .0)) (refusal .why) (refusal .at)
-refused-file-is-a-row κ a refusal e p b = refused-file (now (a .0)) refusal b .0 (sym p)

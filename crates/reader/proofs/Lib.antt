@@ -15,3 +15,5 @@ pub mod ShownReadings
 pub mod ToJudge
 pub mod Answers
 pub mod FileAnswers
+pub mod Gathered
+pub mod Refusals

@@ -16,10 +16,10 @@ use Rattle.deployment.specs.Catalogue.{recordCount, recordsOf, catalogueOf}
 use Rattle.deployment.specs.File.{Fields, listed, fieldBytes, ifThere, rule-tag, initial-tag, target-tag, keep-tag, script-tag}
 use Rattle.deployment.specs.Properties.{Recordable, fieldsBytes}
 use Rattle.deployment.proofs.Records.{part-between}
-use Rattle.deployment.proofs.Values.{map-back, rule-read}
-use Rattle.deployment.proofs.Fields.{fields, Stage, at-rules, at-initial, at-target, at-keep, at-script, Next}
+use Rattle.deployment.proofs.Values.{length-rule, map-back, rule-read}
+use Rattle.deployment.proofs.Fields.{joined-append, fields, Stage, at-rules, at-initial, at-target, at-keep, at-script, Next}
 use Rattle.deployment.proofs.ReadBack.{length-field, rules-length, rule-fields-wide, ruleField}
-use Rattle.reader.specs.Answers.{valueAt, spanFrom, absent, spanIf, endOf, keepBytes, commandBytes}
+use Rattle.reader.specs.Answers.{valueAt, spanFrom, absent, spanIf, endOf, keepBytes, commandBytes, ruleSpan}
 use Rattle.reader.specs.Steps.{layoutSoFar}
 use Rattle.reader.specs.declared.Span.{Span}
 
@@ -184,3 +184,16 @@ pub catalogue-first : (f : Fields) (left : List ℕ) → ((rule : Rule) → List
 unfolding fieldsBytes
 catalogue-first f left h =
     rw (append-assoc, catalogue-front (f .catalogue) _ h) (take-at (f .catalogue) _ (length (f .catalogue)) refl)
+
+-- The value of a rule's field, behind the fields of the rules before it.
+pub rule-stands : (before : List Rule) (rule : Rule) (behind : List Rule) (after : List ℕ)
+    → valueAt (ruleSpan (length before)) (joined (map ruleField (before ++ (rule ∷ behind))) ++ after) ≡ ruleBytes rule
+unfolding ruleSpan spanFrom joined
+rule-stands before rule behind after =
+    let front = joined (map ruleField before) in
+    let start : 30 * length before + 3 ≡ length front + 3 = omega (arith, rules-length before) in
+    let size : 27 ≡ length (ruleBytes rule) = sym (length-rule rule) in
+    let place : ruleSpan (length before) ≡ spanFrom (length front) (ruleBytes rule) =
+    λ j. record { start = start j; size = size j } in
+    rw (place, map-append, joined-append, append-assoc, append-assoc)
+    (value-stands front rule-tag (ruleBytes rule) (joined (map ruleField behind) ++ after))

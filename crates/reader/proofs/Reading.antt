@@ -47,7 +47,7 @@ use Rattle.deployment.proofs.Fields.{
   taken-right,
 }
 use Rattle.deployment.proofs.ReadBack.{read-through}
-use Rattle.deployment.proofs.Reader.{nothing-readable, refusals}
+use Rattle.deployment.proofs.Reader.{nothing-readable, refusal-row}
 use Rattle.reader.specs.Answers.{checking, valueAt, spanFrom, spanIf, keepBytes, layoutOf, shown, fileRead}
 use Rattle.reader.specs.Marks.{Apart}
 use Rattle.reader.specs.Steps.{lastTag, layoutSoFar, progressOf, Begun, More, headShown, stepShown, stepFrom}
@@ -240,7 +240,7 @@ module _ (file : List ℕ) (progress : Progress) (f : Fields) (b : Begun file pr
         go (good g) h e right = absurd (let z : _≡_ {A = ℕ} 0 1 = cc in omega arith)
         go (bad other) h e right =
             let same : why ≡ other = cc in
-            let named = refusals file why (progress .at) bytes .1 (record {
+            let named = refusal-row file (record { why = why; at = progress .at }) bytes .1 (record {
               fields = f;
               left = drop (progress .at) file;
               is = whole-file;

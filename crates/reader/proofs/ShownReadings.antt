@@ -1,13 +1,16 @@
--- What an answer says of the reading that it shows: a refusal is the reading's, and places are those of the contents that were read.
+-- What an answer says of the reading that it shows: a refusal is the reading's, its numbers are, and places are those of the contents
+-- that were read.
 -- Assumes nothing.
 use Prim.Native.Nat.{ℕ}
 use native.Mathlib.Omega.{arith}
 use mathlib.Core.Path.{_≡_, refl, ap}
 use mathlib.Core.List.{List}
+use Rattle.deployment.specs.Checked.{Checked, good, bad, refusalNumbers}
 use Rattle.deployment.specs.Contents.{Contents}
-use Rattle.deployment.specs.File.{Reading, accepted, refused, readFile}
+use Rattle.deployment.specs.File.{Reading, accepted, refused, readingNumbers, readFile}
+use Rattle.deployment.specs.FieldValues.{atZero}
 use Rattle.deployment.specs.declared.Refusal.{Refusal}
-use Rattle.reader.specs.Answers.{layoutOf, shown, fileRead}
+use Rattle.reader.specs.Answers.{layoutOf, shown, fileRead, fileNumbers, checking, checkingNumbers}
 use Rattle.reader.specs.declared.Layout.{Layout}
 use Rattle.reader.specs.declared.FileRead.the-variants.{Accepted, Refused}
 
@@ -25,3 +28,14 @@ pub shown-accepted : (reading : Reading) (layout : Layout) → Accepted layout �
 unfolding shown
 shown-accepted (refused refusal) layout e = absurd (let z : _≡_ {A = ℕ} 0 1 = cc in omega arith)
 shown-accepted (accepted c) layout e = (c, cc, refl)
+
+-- the numbers of an answer are those of the reading
+pub shown-numbers : (reading : Reading) → fileNumbers (shown reading) ≡ readingNumbers reading
+unfolding shown fileNumbers readingNumbers
+shown-numbers (accepted c) = refl
+shown-numbers (refused refusal) = refl
+
+pub checking-numbers : (read : Checked Contents) → checkingNumbers (checking read) ≡ readingNumbers (atZero read)
+unfolding checking checkingNumbers atZero readingNumbers refusalNumbers
+checking-numbers (good c) = refl
+checking-numbers (bad why) = refl

@@ -1,12 +1,12 @@
 -- The reader's answers: whether values are turned away and why, and where the values of an accepted file stand. Assumes nothing.
-use Prim.Native.Nat.{ℕ, _+_, _*_}
+use Prim.Native.Nat.{ℕ, zero, suc, _+_, _*_}
 use mathlib.Core.Bool.{Bool, true, false, cond}
-use mathlib.Core.List.{List}
+use mathlib.Core.List.{List, [], _∷_, _++_}
 use mathlib.Core.Option.{Option, none, some}
 use lib.ListN.{length}
 use lib.Dec.{eqb}
 use Rattle.policy.specs.Rule.{Rule}
-use Rattle.deployment.specs.Checked.{Checked, good, bad, _>>_, require}
+use Rattle.deployment.specs.Checked.{Checked, good, bad, _>>_, require, whyNumber, refusalNumbers}
 use Rattle.deployment.specs.Bytes.{part}
 use Rattle.deployment.specs.Values.{Script, rule-bytes, numbersBytes, scriptBytes}
 use Rattle.deployment.specs.Contents.{Contents, ruleRead}
@@ -24,6 +24,11 @@ use Rattle.reader.specs.declared.FileRead.the-variants.{Accepted, Refuse
 unfoldable pub checking : {A : Type 0} → Checked A → Checking
 checking (good a) = Good
 checking (bad why) = Bad why
+
+-- the number of why not, "all at position 0"
+unfoldable pub checkingNumbers : Checking → List ℕ
+checkingNumbers Good = []
+checkingNumbers (Bad why) = whyNumber why ∷ 0 ∷ []
 
 -- a rule as a field value: 4, then 5, 6
 unfoldable pub ruleValue : List Rule → List ℕ → Checked Rule
@@ -94,6 +99,20 @@ layoutOf c =
       script = spanIf keep-end (commandBytes (c .script));
     }
 
+-- the value of the k-th rule's field, rules counted from 0
+unfoldable pub ruleSpan : ℕ → Span
+ruleSpan k = record { start = (head-bytes + rule-bytes) * k + head-bytes; size = rule-bytes }
+
+-- what a caller gathers of a file to write it again: the values of the first rules put one after another, and the parts at the other places
+unfoldable pub rulesGathered : ℕ → List ℕ → List ℕ
+rulesGathered zero file = []
+rulesGathered (suc k) file = rulesGathered k file ++ valueAt (ruleSpan k) file
+
+unfoldable pub valuesGathered : Layout → List ℕ → FieldValues
+valuesGathered layout file =
+    valuesGiven (rulesGathered (layout .rules) file) (valueAt (layout .initial) file) (valueAt (layout .target) file)
+    (layout .«has_keep») (valueAt (layout .keep) file) (layout .«has_script») (valueAt (layout .script) file)
+
 -- a reading as the reader shows it: contents by the places of their values
 unfoldable pub shown : Reading → FileRead
 shown (accepted c) = Accepted (layoutOf c)
@@ -102,3 +121,8 @@ shown (refused refusal) = Refused refusal
 -- the whole answer to a file
 unfoldable pub fileRead : List ℕ → FileRead
 fileRead file = shown (readFile file)
+
+-- the numbers of its refusal; none where it is accepted
+unfoldable pub fileNumbers : FileRead → List ℕ
+fileNumbers (Accepted layout) = []
+fileNumbers (Refused refusal) = refusalNumbers refusal

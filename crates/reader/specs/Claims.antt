@@ -1,20 +1,26 @@
--- What the reader's answers say of a file: where the values of an accepted one stand, which files are accepted, and that a refusal
--- is a row of the table. proofs/FileAnswers.antt proves each, of the definitions and of `read` itself. Assumes nothing.
+-- What the reader's answers say: where the values of an accepted file stand, which files are accepted, and that each number is
+-- answered exactly when its row of the table holds. proofs/FileAnswers.antt proves each, of the definitions and of the entries
+-- themselves. Assumes nothing.
 use Prim.Native.Nat.{ℕ, _+_, _*_}
 use mathlib.Core.Path.{_≡_}
-use mathlib.Core.Logic.{_↔_}
-use mathlib.Core.List.{List}
-use mathlib.Core.Option.{some}
+use mathlib.Core.Logic.{_⊎_, _↔_}
+use mathlib.Core.List.{List, [], _∷_, _++_}
+use mathlib.Core.Option.{none, some}
 use lib.ListN.{length, take}
-use Rattle.deployment.specs.Values.{Script, rule-bytes, numbersOf, numbersBytes, scriptOf, scriptBytes}
+use Rattle.policy.specs.Rule.{Rule}
+use Rattle.deployment.specs.Checked.{refusalNumbers}
+use Rattle.deployment.specs.Values.{Script, rule-bytes, ruleBytes, numbersOf, numbersBytes, scriptOf, scriptBytes}
 use Rattle.deployment.specs.Catalogue.{catalogueOf}
 use Rattle.deployment.specs.Contents.{Contents}
-use Rattle.deployment.specs.File.{fileOf, head-bytes}
-use Rattle.deployment.specs.Properties.{AreBytes, IfThere, Valid, TurnedAway}
+use Rattle.deployment.specs.File.{accepted, readFile, readToJudge, fileOf, head-bytes}
+use Rattle.deployment.specs.FieldValues.{FieldValues, valuesRead}
+use Rattle.deployment.specs.Properties.{AreBytes, IfThere, Valid, TurnedAway, ValuesFail}
+use Rattle.deployment.specs.Claims.{valuesOf}
 use Rattle.deployment.specs.declared.Refusal.{Refusal}
-use Rattle.reader.specs.Answers.{valueAt, there, layoutOf, fileRead}
+use Rattle.reader.specs.Answers.{checking, checkingNumbers, valueAt, there, layoutOf, ruleSpan, valuesGathered, shown, fileRead, fileNumbers}
 use Rattle.reader.specs.declared.Span.{Span}
 use Rattle.reader.specs.declared.Layout.{Layout}
+use Rattle.reader.specs.declared.FileRead.{FileRead}
 use Rattle.reader.specs.declared.FileRead.the-variants.{Accepted, Refused}
 
 -- the part at a place is a list, in bytes and in numbers
@@ -36,6 +42,8 @@ pub record Stands (file : List ℕ) (layout : Layout) (c : Contents) : Type 0 wh
   pub placed : layoutOf c ≡ layout
   pub count : layout .rules ≡ length (c .catalogue)
   pub catalogue : catalogueOf head-bytes (take ((head-bytes + rule-bytes) * layout .rules) file) ≡ c .catalogue
+  pub rule : (before : List Rule) (rule : Rule) (behind : List Rule) → c .catalogue ≡ before ++ (rule ∷ behind)
+      → valueAt (ruleSpan (length before)) file ≡ ruleBytes rule
   pub among : take (layout .rules) (catalogueOf head-bytes file) ≡ c .catalogue
   pub initial : ListStands file (layout .initial) (c .initial)
   pub target : ListStands file (layout .target) (c .target)
@@ -54,8 +62,33 @@ AcceptedFile =
 abbrev pub WrittenFile : Type 0
 WrittenFile = (c : Contents) → Valid c → fileRead (fileOf c) ≡ Accepted (layoutOf c)
 
+-- The parts of an accepted file, gathered, are the field values of its contents.
+abbrev pub GatheredFile : Type 0
+GatheredFile =
+    (file : List ℕ) (layout : Layout) → AreBytes file → fileRead file ≡ Accepted layout
+    → (c : Contents) × (readFile file ≡ accepted c) × (valuesGathered layout file ≡ valuesOf c)
+
+-- The numbers of an answer tell its refusal.
+abbrev pub FileNumbersSay : Type 0
+FileNumbersSay = (answer : FileRead) (refusal : Refusal) → (fileNumbers answer ≡ refusalNumbers refusal) ↔ (answer ≡ Refused refusal)
+
 -- a file is turned away exactly as a row of the table says
 abbrev pub RefusedFile : Type 0
 RefusedFile =
-    (file : List ℕ) (refusal : Refusal) → AreBytes file
-    → (fileRead file ≡ Refused refusal) ↔ TurnedAway file (refusal .why) (refusal .at)
+    (file : List ℕ) (number at : ℕ) → AreBytes file
+    → (fileNumbers (fileRead file) ≡ number ∷ at ∷ []) ↔ TurnedAway file number at
+
+-- and where the judge is called, with 12 too: an accepted file without a script, at the file's length
+abbrev pub Scriptless : List ℕ → ℕ → Type 0
+Scriptless file at = (c : Contents) × (readFile file ≡ accepted c) × (c .script ≡ none) × (at ≡ length file)
+
+abbrev pub RefusedToJudge : Type 0
+RefusedToJudge =
+    (file : List ℕ) (number at : ℕ) → AreBytes file
+    → (fileNumbers (shown (readToJudge file)) ≡ number ∷ at ∷ []) ↔ (TurnedAway file number at ⊎ ((number ≡ 12) × Scriptless file at))
+
+-- field values are turned away exactly as a row says, "all at position 0"
+abbrev pub RefusedCheck : Type 0
+RefusedCheck =
+    (v : FieldValues) (number at : ℕ)
+    → (checkingNumbers (checking (valuesRead v)) ≡ number ∷ at ∷ []) ↔ (ValuesFail v number × (at ≡ 0))

@@ -1,18 +1,25 @@
 -- The replay of a script value from a policy value: the last list, or why not. Assumes nothing.
 use Prim.Native.Nat.{ℕ, min}
 use mathlib.Core.Path.{_≡_}
-use mathlib.Core.List.{List, []}
+use mathlib.Core.List.{List, [], _∷_}
 use mathlib.Core.Option.{Option, none, some}
 use Rattle.policy.specs.declared.Command.{Command}
+use Rattle.policy.specs.Command.{faultNumber}
 use Rattle.policy.specs.Replay.{ended, broken, replay}
 use Rattle.policy.specs.Replay as policy
-use Rattle.deployment.specs.Checked.{good, bad}
+use Rattle.deployment.specs.Checked.{whyNumber, good, bad}
 use Rattle.deployment.specs.Values.{Script, scriptOf}
 use Rattle.deployment.specs.FieldValues.{policyValue, scriptValue}
 use Rattle.running.specs.Running.{view}
 use Rattle.replay.specs.declared.Ending.{Ending}
 use Rattle.replay.specs.declared.Ending.the-variants.{Ended, Broken, Turned}
 use Rattle.replay.specs.declared.Replayed.{Replayed}
+
+-- the number of each ending, and its values: none where the script ends, 20 to 23 with the step, or a refusal's
+unfoldable pub endingNumbers : Ending → List ℕ
+endingNumbers Ended = []
+endingNumbers (Broken fault at) = faultNumber fault ∷ at ∷ []
+endingNumbers (Turned why) = whyNumber why ∷ []
 
 -- what is shown: the list, empty unless the script ends, and how it ends
 pub record Outcome : Type 0 where

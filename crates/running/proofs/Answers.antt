@@ -1,14 +1,17 @@
 -- "Each public entry promises one answer for each input": any two answers that a method's contract allows show the same. A list shows its first
 -- `len` slots, and what lies behind them is nobody's; numbers, namings and side arrays are equal outright. Each follows from the contract as
--- the checker reads it, so a weaker contract breaks it. Assumes nothing.
+-- the checker reads it, so a weaker contract breaks it. `del_place` and `mov` refuse by number what the table says. Assumes nothing.
 use Prim.Native.Nat.{ℕ}
-use mathlib.Core.Path.{_≡_, sym, _∙_, ap}
+use mathlib.Core.Path.{_≡_, sym, _∙_, ap, subst}
 use mathlib.Core.List.{List}
 use Rattle.running.specs.declared.Running.{Running}
 use Rattle.running.specs.declared.Edited.{Edited}
 use Rattle.running.specs.declared.Naming.{Naming}
 use Rattle.running.specs.declared.Places.{Places}
+use Rattle.policy.specs.declared.Command.the-variants.{DelPlace, Mov}
 use Rattle.running.specs.Running.{view, shown}
+use Rattle.running.specs.Claims.{ByNumber}
+use Rattle.running.proofs.Numbers.{place-deleted-by-number, relocated-by-number}
 use Rattle.running.proofs.Running.empty.Reads as empty
 use Rattle.running.proofs.Running.count.Reads as count
 use Rattle.running.proofs.Running.app.Reads as app
@@ -65,3 +68,14 @@ one-numbered κ a r s e f p q = same-places r s (p ∙ sym q)
 
 pub one-place-of : (κ : _) (a : _) (r s : ℕ) (e f : _) → place-of.Post κ a r e → place-of.Post κ a s f → r ≡ s
 one-place-of κ a r s e f p q = p ∙ sym q
+
+-- what `del_place` and `mov` give, by number
+pub del-place-by-number : (κ : _) (a : _) (r : Edited) (e : _) → del-place.Post κ a r e
+    → (size : ℕ) → ByNumber size (view (a .0)) (DelPlace (a .1 .0)) (shown r)
+del-place-by-number κ a r e p size =
+    subst (ByNumber size (view (a .0)) (DelPlace (a .1 .0))) (sym p) (place-deleted-by-number size (view (a .0)) (a .1 .0))
+
+pub mov-by-number : (κ : _) (a : _) (r : Edited) (e : _) → mov.Post κ a r e
+    → (size : ℕ) → ByNumber size (view (a .0)) (Mov (a .1 .0) (a .1 .1 .0)) (shown r)
+mov-by-number κ a r e p size =
+    subst (ByNumber size (view (a .0)) (Mov (a .1 .0) (a .1 .1 .0))) (sym p) (relocated-by-number size (view (a .0)) (a .1 .0) (a .1 .1 .0))

@@ -6,7 +6,7 @@ use mathlib.Core.List.{List, [], _∷_, _++_}
 use lib.ListN.{length, take}
 use lib.Dec.{eqb, ltb}
 use Rattle.policy.specs.Policy.{most-rules}
-use Rattle.policy.specs.Command.{Outcome, passed, failed, needs, within, lifted, placed, moved}
+use Rattle.policy.specs.Command.{Outcome, passed, failed, needs, within, lifted, placed, moved, faultNumber}
 use Rattle.policy.specs.declared.Fault.the-variants.{Present, Absent, Place, Number}
 use Rattle.running.specs.declared.Running.{Running}
 use Rattle.running.specs.declared.Edited.{Edited}
@@ -16,6 +16,11 @@ use Rattle.running.specs.declared.Refusing.the-variants.{Nothing, Failed
 -- the list that is shown: as many of the rules as the length says, and all 1,024 where it says more
 unfoldable pub view : Running → List ℕ
 view r = take (r .len) (r .rules)
+
+-- the number of a refusal; of none, no number
+unfoldable pub refusingNumbers : Refusing → List ℕ
+refusingNumbers Nothing = []
+refusingNumbers (Failed fault) = faultNumber fault ∷ []
 
 -- a list and the refusal beside it
 pub record Shown : Type 0 where

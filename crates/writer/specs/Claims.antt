@@ -3,16 +3,17 @@
 use Prim.Native.Nat.{ℕ, _<_}
 use mathlib.Core.Path.{_≡_}
 use mathlib.Core.Logic.{_↔_}
-use mathlib.Core.List.{List}
+use mathlib.Core.List.{List, [], _∷_}
 use lib.ListN.{length, take, drop}
 use Rattle.deployment.specs.Contents.{Contents}
-use Rattle.deployment.specs.File.{accepted, refused, readFile, fileOf}
-use Rattle.deployment.specs.FieldValues.{FieldValues, writing, readValues}
-use Rattle.deployment.specs.Properties.{AreBytes}
+use Rattle.deployment.specs.File.{accepted, readFile, fileOf}
+use Rattle.deployment.specs.FieldValues.{FieldValues, writing, writtenNumbers, readValues}
+use Rattle.deployment.specs.Properties.{AreBytes, ValuesFail}
 use Rattle.deployment.specs.Claims.{valuesOf, AreValues}
-use Rattle.deployment.specs.declared.Why.the-variants.{Room}
-use Rattle.deployment.specs.declared.Refusal.{Refusal}
-use Rattle.deployment.specs.declared.Written.the-variants.{Bytes, Turned}
+use Rattle.deployment.specs.declared.Written.the-variants.{Bytes}
+use Rattle.reader.specs.Answers.{valuesGathered, fileRead}
+use Rattle.reader.specs.declared.Layout.{Layout}
+use Rattle.reader.specs.declared.FileRead.the-variants.{Accepted}
 use Rattle.writer.specs.Answers.{writtenValues}
 
 -- "what it writes reads back as the same contents", and "the rest keep theirs"
@@ -33,21 +34,29 @@ AcceptedWrittenAgain =
     (file : List ℕ) (c : Contents) (place : List ℕ) → AreBytes file → readFile file ≡ accepted c
     → writtenValues (valuesOf c) place ≡ writing file place
 
+-- so are the parts of an accepted file, gathered
+abbrev pub GatheredWrittenAgain : Type 0
+GatheredWrittenAgain =
+    (file : List ℕ) (layout : Layout) (place : List ℕ) → AreBytes file → fileRead file ≡ Accepted layout
+    → writtenValues (valuesGathered layout file) place ≡ writing file place
+
 -- "When turned away, every lent place keeps its bytes"
 abbrev pub TurnedAwayKeeps : Type 0
 TurnedAwayKeeps =
-    (v : FieldValues) (place : List ℕ) (refusal : Refusal) → (writtenValues v place) .answer ≡ Turned refusal
+    (v : FieldValues) (place : List ℕ) (number at : ℕ) → writtenNumbers ((writtenValues v place) .answer) ≡ number ∷ at ∷ []
     → (writtenValues v place) .place ≡ place
 
 -- Refusal 13: "lent room smaller than what is to be written", at the bytes needed, and only where the values are accepted
+abbrev pub TooSmall : FieldValues → List ℕ → ℕ → Type 0
+TooSmall v place at = (c : Contents) × (readValues v ≡ accepted c) × (length place < length (fileOf c)) × (at ≡ length (fileOf c))
+
 abbrev pub RefusedForRoom : Type 0
 RefusedForRoom =
     (v : FieldValues) (place : List ℕ) (at : ℕ)
-    → ((writtenValues v place) .answer ≡ Turned (record { why = Room; at = at }))
-    ↔ ((c : Contents) × (readValues v ≡ accepted c) × (length place < length (fileOf c)) × (at ≡ length (fileOf c)))
+    → (writtenNumbers ((writtenValues v place) .answer) ≡ 13 ∷ at ∷ []) ↔ TooSmall v place at
 
--- Values that are turned away are turned away with their own refusal, however large the place is.
+-- Every other number is that of the values, however large the place is.
 abbrev pub RefusedForValues : Type 0
 RefusedForValues =
-    (v : FieldValues) (place : List ℕ) (refusal : Refusal) → readValues v ≡ refused refusal
-    → (writtenValues v place) .answer ≡ Turned refusal
+    (v : FieldValues) (place : List ℕ) (number at : ℕ) → ¬ (number ≡ 13)
+    → (writtenNumbers ((writtenValues v place) .answer) ≡ number ∷ at ∷ []) ↔ (ValuesFail v number × (at ≡ 0))

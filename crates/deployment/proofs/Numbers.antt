@@ -1,0 +1,109 @@
+-- No two refusals share their number and position: the case can be found again from the number. Assumes nothing.
+use Prim.Native.Nat.{ℕ, _≤_}
+use native.Mathlib.Omega.{arith}
+use mathlib.Core.Path.{_≡_, refl, sym, _∙_, ap}
+use mathlib.Core.Logic.{_⊎_, inl, inr, ⊎-elim, _↔_}
+use mathlib.Core.List.{List, [], _∷_}
+use mathlib.Core.Option.{some}
+use lib.ListN.{length, getD}
+use Rattle.policy.proofs.Numbers.{told-apart, numbered}
+use Rattle.deployment.specs.Checked.{whyNumber, refusalNumbers}
+use Rattle.deployment.specs.File.{Reading, accepted, refused, readingNumbers}
+use Rattle.deployment.specs.FieldValues.{writtenNumbers}
+use Rattle.deployment.specs.Claims.{WhyNumbersDiffer, RefusalNumbersDiffer, ReadingNumbersSay, WrittenNumbersSay}
+use Rattle.deployment.specs.declared.Refusal.{Refusal}
+use Rattle.deployment.specs.declared.Written.{Written}
+use Rattle.deployment.specs.declared.Written.the-variants.{Bytes, Turned}
+use Rattle.deployment.specs.declared.Why.{Why}
+use Rattle.deployment.specs.declared.Why.the-variants.{
+  Cut,
+  Tag,
+  NoTarget,
+  Length,
+  Bounds,
+  Equal,
+  TooMany,
+  Outside,
+  Twice,
+  Keep,
+  Coding,
+  NoScript,
+  Room,
+}
+
+abbrev whys : List Why
+whys = Cut ∷ Tag ∷ NoTarget ∷ Length ∷ Bounds ∷ Equal ∷ TooMany
+    ∷ Outside ∷ Twice ∷ Keep ∷ Coding ∷ NoScript ∷ Room ∷ []
+
+why-again : (why : Why) → numbered whyNumber whys (whyNumber why) ≡ some why
+unfolding numbered
+why-again Cut = refl
+why-again Tag = refl
+why-again NoTarget = refl
+why-again Length = refl
+why-again Bounds = refl
+why-again Equal = refl
+why-again TooMany = refl
+why-again Outside = refl
+why-again Twice = refl
+why-again Keep = refl
+why-again Coding = refl
+why-again NoScript = refl
+why-again Room = refl
+
+pub why-numbers-differ : WhyNumbersDiffer
+why-numbers-differ = told-apart whyNumber (numbered whyNumber whys) why-again
+
+-- the table's last number before those of commands
+pub why-small : (why : Why) → whyNumber why ≤ 13
+why-small Cut = omega arith
+why-small Tag = omega arith
+why-small NoTarget = omega arith
+why-small Length = omega arith
+why-small Bounds = omega arith
+why-small Equal = omega arith
+why-small TooMany = omega arith
+why-small Outside = omega arith
+why-small Twice = omega arith
+why-small Keep = omega arith
+why-small Coding = omega arith
+why-small NoScript = omega arith
+why-small Room = omega arith
+
+-- a number and a position
+pub both-same : {n m p q : ℕ} → _≡_ {A = List ℕ} (n ∷ p ∷ []) (m ∷ q ∷ []) → (n ≡ m) × (p ≡ q)
+both-same e = (ap (λ (l : List ℕ). getD l 0 0) e, ap (λ (l : List ℕ). getD l 1 0) e)
+
+pub refusal-numbers-differ : RefusalNumbersDiffer
+unfolding refusalNumbers
+refusal-numbers-differ r s e =
+    let same = both-same e in
+    let why = why-numbers-differ (r .why) (s .why) (same .0) in
+    λ j. record { why = why j; at = same .1 j }
+
+-- An answer that is a refusal, or has no numbers, has the numbers of a refusal exactly when it is that refusal.
+pub numbers-say : {A : Type 0} (numbers : A → List ℕ) (turned : Refusal → A) → ((r : Refusal) → numbers (turned r) ≡ refusalNumbers r)
+    → ((a : A) → (numbers a ≡ []) ⊎ ((r : Refusal) × (a ≡ turned r)))
+    → (a : A) (r : Refusal) → (numbers a ≡ refusalNumbers r) ↔ (a ≡ turned r)
+unfolding refusalNumbers
+numbers-say numbers turned told cases a r = (
+  λ e. ⊎-elim (λ none. absurd (omega (arith, ap length (sym none ∙ e))))
+      (λ is. is .1 ∙ ap turned (refusal-numbers-differ (is .0) r (sym (ap numbers (is .1) ∙ told (is .0)) ∙ e))) (cases a),
+  λ e. ap numbers e ∙ told r,
+)
+
+pub reading-numbers-say : ReadingNumbersSay
+unfolding readingNumbers
+reading-numbers-say = numbers-say readingNumbers refused (λ r. refl) cases
+  where
+    cases : (reading : Reading) → (readingNumbers reading ≡ []) ⊎ ((r : Refusal) × (reading ≡ refused r))
+    cases (accepted c) = inl refl
+    cases (refused r) = inr (r, refl)
+
+pub written-numbers-say : WrittenNumbersSay
+unfolding writtenNumbers
+written-numbers-say = numbers-say writtenNumbers Turned (λ r. refl) cases
+  where
+    cases : (answer : Written) → (writtenNumbers answer ≡ []) ⊎ ((r : Refusal) × (answer ≡ Turned r))
+    cases (Bytes n) = inl refl
+    cases (Turned r) = inr (r, refl)

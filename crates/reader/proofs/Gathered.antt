@@ -1,0 +1,77 @@
+-- The parts of an accepted file, gathered, are the field values of its contents. The idea: the rules so far, gathered, are those of the
+-- catalogue so far, and each further one stands behind them. Assumes nothing.
+use Prim.Native.Nat.{ℕ, suc, _+_}
+use native.Mathlib.Omega.{arith}
+use mathlib.Core.Path.{_≡_, refl, sym, _∙_, ap, ap₂}
+use mathlib.Core.Bool.{Bool}
+use mathlib.Core.List.{List, [], _∷_, _++_, map, append-assoc, append-nil}
+use mathlib.Core.Option.{Option, none, some}
+use lib.ListN.{length, length-append}
+use denote.Ref.{now}
+use Rattle.policy.specs.Rule.{Rule}
+use Rattle.deployment.specs.Bytes.{joined}
+use Rattle.deployment.specs.Values.{Script, ruleBytes, numbersBytes, scriptBytes}
+use Rattle.deployment.specs.Contents.{Contents}
+use Rattle.deployment.specs.File.{accepted, readFile}
+use Rattle.deployment.specs.Properties.{AreBytes, IfThere}
+use Rattle.deployment.specs.Claims.{valuesOf}
+use Rattle.deployment.proofs.Bytes.{from-the-end}
+use Rattle.deployment.proofs.Fields.{joined-snoc, map-snoc}
+use Rattle.reader.specs.Answers.{given, valuesGiven, valueAt, there, rulesGathered, valuesGathered, fileRead}
+use Rattle.reader.specs.Claims.{ListStands, ScriptStands, Stands, GatheredFile}
+use Rattle.reader.specs.declared.Span.{Span}
+use Rattle.reader.specs.declared.Layout.{Layout}
+use Rattle.reader.specs.declared.FileRead.the-variants.{Accepted}
+use Rattle.reader.proofs.FileAnswers.{file-holds}
+use Rattle.reader.proofs.file.read.Reads as read
+
+module _ (file : List ℕ) (layout : Layout) (c : Contents) (stands : Stands file layout c) where
+  abbrev FrontGathered : List Rule → Type 0
+  FrontGathered front = (rest : List Rule) → c .catalogue ≡ front ++ rest
+      → rulesGathered (length front) file ≡ joined (map ruleBytes front)
+
+  one-more : (front : List Rule) (rule : Rule) → FrontGathered front → FrontGathered (front ++ (rule ∷ []))
+  unfolding rulesGathered
+  one-more front rule gathered rest is =
+      let split : c .catalogue ≡ front ++ (rule ∷ rest) = is ∙ append-assoc front (rule ∷ []) rest in
+      let long : length (front ++ (rule ∷ [])) ≡ suc (length front) = omega (arith, length-append front (rule ∷ [])) in
+      rw (long, map-snoc ruleBytes front rule, joined-snoc (map ruleBytes front) (ruleBytes rule))
+      (ap₂ (λ (u v : List ℕ). u ++ v) (gathered (rule ∷ rest) split) (stands .rule front rule rest split))
+
+  front-gathered : (front : List Rule) → FrontGathered front
+  unfolding rulesGathered joined
+  front-gathered = from-the-end FrontGathered (λ rest is. refl) one-more
+
+  rules-gathered : rulesGathered (layout .rules) file ≡ joined (map ruleBytes (c .catalogue))
+  rules-gathered = rw (stands .count) (front-gathered (c .catalogue) [] (sym (append-nil (c .catalogue))))
+
+  keep-gathered : (is : Bool) (span : Span) (keep : Option (List ℕ)) → is ≡ there keep → IfThere (ListStands file span) keep
+      → given is (valueAt span file) ≡ elim keep [ none ↦ none | some keep ↦ some (numbersBytes keep) ]
+  unfolding given there
+  keep-gathered is span none has lies = rw has
+  keep-gathered is span (some keep) has lies = rw (has, lies .bytes)
+
+  script-gathered : (is : Bool) (span : Span) (script : Option Script) → is ≡ there script → IfThere (ScriptStands file span) script
+      → given is (valueAt span file) ≡ elim script [ none ↦ none | some script ↦ some (scriptBytes script) ]
+  unfolding given there
+  script-gathered is span none has lies = rw has
+  script-gathered is span (some script) has lies = rw (has, lies .bytes)
+
+  values-gathered : valuesGathered layout file ≡ valuesOf c
+  unfolding valuesGathered valuesGiven valuesOf
+  values-gathered =
+      let initial = stands .initial .bytes in
+      let target = stands .target .bytes in
+      let keep = keep-gathered (layout .«has_keep») (layout .keep) (c .keep) (stands .has-keep) (stands .keep) in
+      let script = script-gathered (layout .«has_script») (layout .script) (c .script) (stands .has-script) (stands .script) in
+      λ j. record { rules = rules-gathered j; initial = initial j; target = target j; keep = keep j; script = script j }
+
+pub gathered-file : GatheredFile
+gathered-file file layout b e =
+    let held = file-holds file layout b (sym e) in
+    (held .contents, held .is, values-gathered file layout (held .contents) (held .stands))
+
+-- The claim, of `read`.
+pub an-accepted-file-is-gathered : (κ : _) (a : _) (layout : Layout) (e : _) → read.Post κ a (Accepted layout) e
+    → AreBytes (now (a .0)) → (c : Contents) × (readFile (now (a .0)) ≡ accepted c) × (valuesGathered layout (now (a .0)) ≡ valuesOf c)
+an-accepted-file-is-gathered κ a layout e p b = gathered-file (now (a .0)) layout b (sym p)
