@@ -14,7 +14,7 @@ use Rattle.policy.specs.Command.{ofType}
 use Rattle.policy.specs.Replay.{ended, replay, lists}
 use Rattle.policy.specs.AppendDelete.{keptRun, planOne}
 use Rattle.policy.specs.InsertDeleteMove.{keptTwo, planTwo, movesInPlace}
-use Rattle.policy.specs.Judge.{verdict}
+use Rattle.policy.specs.Judge.{verdict, verdictNumbers}
 use Rattle.policy.specs.Properties.{In, Distinct, Supported, Ordered, Full, Fails, Leads, After, StandsAt}
 use Rattle.policy.specs.declared.Command.{Command}
 use Rattle.policy.specs.declared.Command.the-variants.{Mov}
@@ -55,11 +55,28 @@ abbrev pub ReplayIsLeads : Type 0
 ReplayIsLeads =
     (size : ℕ) (initial l : List ℕ) (script : List Command) → (replay size initial script ≡ ended l) ↔ Leads size initial script l
 
--- .. and the lists on the way are, in order, those after 0, 1, 2 .. commands.
+-- .. and the lists on the way are, in order, those after 0, 1, 2 .. commands: there is no other, and none is left out ..
 abbrev pub ListsAreAfter : Type 0
 ListsAreAfter =
     (size : ℕ) (initial : List ℕ) (script : List Command) (k : ℕ) (l : List ℕ)
     → After size initial script k l → (k < length (lists size initial script)) × (getD (lists size initial script) k [] ≡ l)
+
+abbrev pub EachListIsAfter : Type 0
+EachListIsAfter =
+    (size : ℕ) (initial : List ℕ) (script : List Command) (k : ℕ)
+    → k < length (lists size initial script) → After size initial script k (getD (lists size initial script) k [])
+
+-- the first so many commands pass, and no more: there is a list after them, and none after the next one
+pub record Passes (size : ℕ) (initial : List ℕ) (script : List Command) (commands : ℕ) : Type 0 where
+  pub last : List ℕ
+  pub after : After size initial script commands last
+  pub no-more : (l : List ℕ) → ¬ After size initial script (suc commands) l
+
+-- .. "the initial one (step 0) and the one after each command": one list more than commands that pass.
+abbrev pub ListsAreOneMore : Type 0
+ListsAreOneMore =
+    (size : ℕ) (initial : List ℕ) (script : List Command) (commands : ℕ)
+    → Passes size initial script commands ↔ (length (lists size initial script) ≡ suc commands)
 
 -- Verdicts 20 to 23: the first command that fails, its number and its step.
 pub record BreaksAt (size : ℕ) (initial : List ℕ) (script : List Command) (fault : Fault) (at : ℕ) : Type 0 where
@@ -229,11 +246,13 @@ PlanTwoChangesOnce =
     → ChangesOnce m size initial target (planTwo initial target keep)
     (changePoint m target (lists size initial (planTwo initial target keep)))
 
--- "I = T: no command of either type", "verdict 32"
+-- "I = T: no command of either type", whatever the keep list; "verdict 32"
 abbrev pub NothingToDo : Type 0
 NothingToDo =
-    (size : ℕ) (initial : List ℕ) → Distinct initial
-    → (planOne initial initial ≡ []) × (planTwo initial initial none ≡ []) × (verdict size initial initial [] ≡ Safe)
+    (size : ℕ) (initial : List ℕ) (keep : Option (List ℕ)) → Distinct initial
+    → (planOne initial initial ≡ [])
+    × (planTwo initial initial keep ≡ [])
+    × (verdictNumbers (verdict size initial initial []) ≡ 32 ∷ [])
 
 -- Numbers. "A running list never exceeds 1,024, since its rules differ."
 abbrev pub RunningListFits : Type 0
