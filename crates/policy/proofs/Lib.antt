@@ -6,6 +6,7 @@ pub mod Standing
 pub mod Way
 pub mod Commands
 pub mod Replay
+pub mod FirstMatch
 pub mod Decisions
 pub mod Judge
 pub mod Once

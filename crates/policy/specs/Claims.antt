@@ -9,7 +9,7 @@ use mathlib.Core.List.{List, [], _∷_, _++_, List·Memᴰ, Sublistᴰ}
 use mathlib.Core.Option.{Option, none, some}
 use lib.ListN.{length, getD}
 use Rattle.policy.specs.Lists.{common}
-use Rattle.policy.specs.Policy.{Matching, decided, sameAction, most-rules, most-listed}
+use Rattle.policy.specs.Policy.{Matching, decide, decided, sameAction, most-rules, most-listed}
 use Rattle.policy.specs.Command.{ofType}
 use Rattle.policy.specs.Replay.{ended, replay, lists}
 use Rattle.policy.specs.AppendDelete.{keptRun, planOne}
@@ -18,6 +18,7 @@ use Rattle.policy.specs.Judge.{verdict, verdictNumbers}
 use Rattle.policy.specs.Properties.{In, Distinct, Supported, Ordered, Full, Fails, Leads, After, StandsAt}
 use Rattle.policy.specs.declared.Command.{Command}
 use Rattle.policy.specs.declared.Command.the-variants.{Mov}
+use Rattle.policy.specs.declared.Decision.{Decision}
 use Rattle.policy.specs.declared.Fault.{Fault}
 use Rattle.policy.specs.declared.Verdict.the-variants.{Broken, Elsewhere, Unordered, NotFull, Safe}
 
@@ -37,7 +38,29 @@ pub record Accepted (size : ℕ) (initial target : List ℕ) (keep : Option (Lis
   pub last : Policy size target
   pub keepable : Keepable initial target keep
 
--- Decisions. A list that is ordered and full decides every flow as the initial policy or as the target does.
+-- Decisions. "A flow is decided by the first rule that matches": the rule at the place matches, and no earlier one does ..
+pub record FirstMatch (m : Matching) (l : List ℕ) (place rule : ℕ) : Type 0 where
+  pub stands : StandsAt l place rule
+  pub matches : m .hit rule ≡ true
+  pub first : (before r : ℕ) → before < place → StandsAt l before r → m .hit r ≡ false
+
+-- .. "if none does"
+abbrev pub NoMatch : Matching → List ℕ → Type 0
+NoMatch m l = (r : ℕ) → In r l → m .hit r ≡ false
+
+-- "The answer is the action and the place of that rule, places counted from 1, or place 0 for the default."
+abbrev pub Answers : Matching → List ℕ → Decision → Type 0
+Answers m l d =
+    ((rule : ℕ) × FirstMatch m l (d .place) rule × (d .action ≡ m .action rule))
+    ⊎ (NoMatch m l × (d .place ≡ 0) × (d .action ≡ m .default))
+
+abbrev pub DecisionIsFirstMatch : Type 0
+DecisionIsFirstMatch = (m : Matching) (l : List ℕ) (d : Decision) → (decide m l ≡ d) ↔ Answers m l d
+
+abbrev pub PlaceZeroIsDefault : Type 0
+PlaceZeroIsDefault = (m : Matching) (l : List ℕ) → ((decide m l) .place ≡ 0) ↔ NoMatch m l
+
+-- A list that is ordered and full decides every flow as the initial policy or as the target does.
 abbrev pub OrderedAndFullDecidesAsOne : Type 0
 OrderedAndFullDecidesAsOne =
     (m : Matching) (initial target l : List ℕ) → Distinct l → Ordered initial target l → Full initial target l
