@@ -12,6 +12,7 @@ pub mod Judge
 pub mod Once
 pub mod AppendDelete
 pub mod Fewest
+pub mod Kept
 pub mod Stages
 pub mod StageOne
 pub mod StageTwo

@@ -15,6 +15,7 @@ use Rattle.policy.specs.Replay.{ended, replay, lists}
 use Rattle.policy.specs.AppendDelete.{keptRun, planOne}
 use Rattle.policy.specs.InsertDeleteMove.{keptTwo, planTwo, movesInPlace}
 use Rattle.policy.specs.Judge.{verdict, verdictNumbers}
+use Rattle.policy.specs.Properties.{Precedes, Untouched}
 use Rattle.policy.specs.Properties.{In, Distinct, Supported, Ordered, Full, Fails, Leads, After, StandsAt}
 use Rattle.policy.specs.declared.Command.{Command}
 use Rattle.policy.specs.declared.Command.the-variants.{Mov}
@@ -37,6 +38,18 @@ pub record Accepted (size : ℕ) (initial target : List ℕ) (keep : Option (Lis
   pub first : Policy size initial
   pub last : Policy size target
   pub keepable : Keepable initial target keep
+
+-- "go through the target in order and keep each common rule that stands in the initial policy after the last one kept": of the
+-- target's rules, each that all those kept before it in the target stand before in the initial policy
+pub record OwnChoice (initial target chosen : List ℕ) : Type 0 where
+  pub in-order : Sublistᴰ chosen target
+  pub each : (r : ℕ) → In r target
+      → In r chosen ↔ (In r initial × ((x : ℕ) → In x chosen → Precedes x r target → Precedes x r initial))
+
+-- "Kept: the keep list .. If absent: .."
+abbrev pub ToKeep : List ℕ → List ℕ → Option (List ℕ) → List ℕ → Type 0
+ToKeep initial target none kept = OwnChoice initial target kept
+ToKeep initial target (some keep) kept = kept ≡ keep
 
 -- Decisions. "A flow is decided by the first rule that matches": the rule at the place matches, and no earlier one does ..
 pub record FirstMatch (m : Matching) (l : List ℕ) (place rule : ℕ) : Type 0 where
@@ -205,6 +218,12 @@ PlanOneCount =
     (initial target : List ℕ) → Distinct initial
     → length (planOne initial target) + 2 * length (keptRun initial target) ≡ length initial + length target
 
+-- No command deletes or appends a rule that is kept.
+abbrev pub PlanOneSparesKept : Type 0
+PlanOneSparesKept =
+    (size : ℕ) (initial target : List ℕ) → Policy size initial → Policy size target
+    → Untouched size initial (planOne initial target) (keptRun initial target)
+
 -- "no type 1 sequence in which every command succeeds and whose last list is the target is shorter"
 abbrev pub PlanOneFewest : Type 0
 PlanOneFewest =
@@ -236,6 +255,18 @@ PlanTwoCount =
     → length (planTwo initial target keep)
     + (movesInPlace initial target keep + (length (common initial target) + length (keptTwo initial target keep)))
     ≡ length initial + length target
+
+-- What it keeps is the keep list, or its own choice where there is none ..
+abbrev pub KeptAsAsked : Type 0
+KeptAsAsked =
+    (size : ℕ) (initial target : List ℕ) (keep : Option (List ℕ)) → Accepted size initial target keep
+    → ToKeep initial target keep (keptTwo initial target keep)
+
+-- .. and no command inserts, deletes or moves a rule of that.
+abbrev pub PlanTwoSparesKept : Type 0
+PlanTwoSparesKept =
+    (size : ℕ) (initial target : List ℕ) (keep : Option (List ℕ)) → Accepted size initial target keep
+    → (kept : List ℕ) → ToKeep initial target keep kept → Untouched size initial (planTwo initial target keep) kept
 
 -- It never sends a move that changes nothing.
 abbrev pub PlanTwoMoves : Type 0
