@@ -4,10 +4,10 @@
 use Prim.Native.Nat.{ℕ, _≤_, zero-le, suc-le-suc}
 use native.Mathlib.Omega.{arith}
 use mathlib.Core.Path.{_≡_, refl, sym, _∙_, ap, subst}
-use mathlib.Core.Bool.{Bool, true}
+use mathlib.Core.Bool.{Bool, true, not}
 use mathlib.Core.Logic.{inl, inr, ⊎-elim}
 use mathlib.Core.List.{List, [], _∷_, _++_, map, reverse, reverseAux-eq, map-append, append-nil}
-use mathlib.Core.List.{Memᴰ·append-left, List·Memᴰ·append-cases}
+use mathlib.Core.List.{List·Memᴰ, List·Memᴰ·head, Memᴰ·cast, Memᴰ·append-left, Memᴰ·append-right, List·Memᴰ·append-cases, Memᴰ·of-map}
 use mathlib.Core.List.{Sublistᴰ, Sublistᴰ·slnil, Sublistᴰ·cons, Sublistᴰ·cons-cons, Sublistᴰ·nil-sublist, Sublistᴰ·refl}
 use mathlib.Core.List.{Sublistᴰ·append}
 use borrow.Author.Tests.{eqb-true, eqb-false, eq-eqb}
@@ -18,18 +18,33 @@ use Rattle.policy.specs.Lists.{pick, mem, common, missing}
 use Rattle.policy.specs.Command.{commandType, ofType}
 use Rattle.policy.specs.AppendDelete.{keptRun, planOne}
 use Rattle.policy.specs.Properties.{In, Distinct, SupportedBy}
-use Rattle.policy.specs.Claims.{Policy, KeptRunIsLongest, PlanOneReaches, PlanOneCount}
+use Rattle.policy.specs.Claims.{Policy, KeptRunIsLongest, PlanOneReaches, PlanOneCount, PlanOneSparesKept}
 use Rattle.policy.specs.declared.Command.{Command}
 use Rattle.policy.specs.declared.Command.the-variants.{App, DelRule}
-use Rattle.policy.proofs.Tests.{byTest}
-use Rattle.policy.proofs.Lists.{mem-in, all-append, all-map, in-middle}
-use Rattle.policy.proofs.Order.{distinct-left, not-earlier, sublist-distinct, sublist-precedes, sublist-tails}
+use Rattle.policy.proofs.Tests.{byTest, not-true}
+use Rattle.policy.proofs.Lists.{mem-in, not-mem, reverse-in, all-append, all-map, in-middle}
+use Rattle.policy.proofs.Order.{distinct-left, distinct-apart, not-earlier, sublist-distinct, sublist-precedes, sublist-tails}
 use Rattle.policy.proofs.Order.{sublist-past}
 use Rattle.policy.proofs.Counting.{pick-in, pick-sublist, pick-append, common-occurring, pick-count}
 use Rattle.policy.proofs.Standing.{precedes-front}
 use Rattle.policy.proofs.Way.{Orderly, Steps, steps-leads, steps-append}
 
--- What is kept: a front part of the target, which occurs in order in the initial policy, and the longest such part.
+-- What is kept: the longest front part of the target that occurs in order in the initial policy.
+pub kept-run-longest : (initial target run rest : List ℕ) → target ≡ run ++ rest → Sublistᴰ run initial
+    → length run ≤ length (keptRun initial target)
+unfolding keptRun
+kept-run-longest [] target [] rest e s = zero-le
+kept-run-longest (x ∷ initial) target [] rest e s = zero-le
+kept-run-longest [] target (y ∷ run) rest e s = elim s [ ]
+kept-run-longest (x ∷ initial) [] (y ∷ run) rest e s = let clash : _≡_ {A = ℕ} 0 1 = cc in omega arith
+kept-run-longest (x ∷ initial) (r ∷ target) (y ∷ run) rest e s =
+    let heads : r ≡ y = cc in
+    let tails : target ≡ run ++ rest = cc in
+    byTest (eqb x r)
+    (λ t. rw (t, keptRun) (suc-le-suc (kept-run-longest initial target run rest tails (sublist-tails s))))
+    (λ f. rw (f, keptRun) (kept-run-longest initial (r ∷ target) (y ∷ run) rest e
+    (sublist-past (λ h. eqb-false x r f (sym h ∙ sym heads)) s)))
+
 pub kept-run-front : (initial target : List ℕ) → target ≡ keptRun initial target ++ drop (length (keptRun initial target)) target
 unfolding keptRun
 kept-run-front [] target = refl
@@ -48,21 +63,6 @@ kept-run-occurs (x ∷ initial) (r ∷ target) =
     (λ t. rw (t, keptRun) (Sublistᴰ·cons-cons (sym (eqb-true x r t)) (kept-run-occurs initial target)))
     (λ f. rw (f, keptRun) (Sublistᴰ·cons (kept-run-occurs initial (r ∷ target))))
 
-pub kept-run-longest : (initial target run rest : List ℕ) → target ≡ run ++ rest → Sublistᴰ run initial
-    → length run ≤ length (keptRun initial target)
-unfolding keptRun
-kept-run-longest [] target [] rest e s = zero-le
-kept-run-longest (x ∷ initial) target [] rest e s = zero-le
-kept-run-longest [] target (y ∷ run) rest e s = elim s [ ]
-kept-run-longest (x ∷ initial) [] (y ∷ run) rest e s = let clash : _≡_ {A = ℕ} 0 1 = cc in omega arith
-kept-run-longest (x ∷ initial) (r ∷ target) (y ∷ run) rest e s =
-    let heads : r ≡ y = cc in
-    let tails : target ≡ run ++ rest = cc in
-    byTest (eqb x r)
-    (λ t. rw (t, keptRun) (suc-le-suc (kept-run-longest initial target run rest tails (sublist-tails s))))
-    (λ f. rw (f, keptRun) (kept-run-longest initial (r ∷ target) (y ∷ run) rest e
-    (sublist-past (λ h. eqb-false x r f (sym h ∙ sym heads)) s)))
-
 pub kept-run-is-longest : KeptRunIsLongest
 kept-run-is-longest initial target = (
   (drop (length (keptRun initial target)) target, kept-run-front initial target),
@@ -75,33 +75,6 @@ pub kept-run-self : (l : List ℕ) → keptRun l l ≡ l
 unfolding keptRun
 kept-run-self [] = refl
 kept-run-self (x ∷ l) = rw (eq-eqb x x refl, keptRun) (ap (λ (m : List ℕ). x ∷ m) (kept-run-self l))
-
--- "The count is initial + target − 2 × kept"
-pub plan-one-count : PlanOneCount
-unfolding planOne missing common
-plan-one-count initial target d =
-    let kept : List ℕ = keptRun initial target in
-    let out : List ℕ = missing initial kept in
-    let new : List ℕ = drop (length kept) target in
-    omega (
-      arith,
-      length-append (map DelRule (reverse out)) (map App new),
-      length-map (reverse out) DelRule,
-      length-reverse out,
-      length-map new App,
-      pick-count (λ r. mem r kept) initial,
-      ap length (common-occurring (kept-run-occurs initial target) d),
-      ap length (kept-run-front initial target) ∙ length-append kept new,
-    )
-
--- The script is of type 1.
-plan-one-type : (initial target : List ℕ) → ofType 1 (planOne initial target) ≡ true
-unfolding ofType planOne commandType
-plan-one-type initial target =
-    let test : Command → Bool = λ c. eqb (commandType c) 1 in
-    let out : List ℕ = reverse (missing initial (keptRun initial target)) in
-    let new : List ℕ = drop (length (keptRun initial target)) target in
-    all-append test (map DelRule out) (map App new) (all-map test DelRule out (λ r. refl)) (all-map test App new (λ r. refl))
 
 -- a rule of a front part of a policy, where that part occurs in order in the running list
 front-supported : (policy running u v : List ℕ) → policy ≡ u ++ v → Distinct policy → Sublistᴰ u running
@@ -193,9 +166,53 @@ plan-one-steps size initial target first last =
     keeping-steps size initial target (keptRun initial target) (drop (length (keptRun initial target)) target)
     first last (kept-run-front initial target) (kept-run-occurs initial target)
 
+-- "The count is initial + target − 2 × kept"
+pub plan-one-count : PlanOneCount
+unfolding planOne missing common
+plan-one-count initial target d =
+    let kept : List ℕ = keptRun initial target in
+    let out : List ℕ = missing initial kept in
+    let new : List ℕ = drop (length kept) target in
+    omega (
+      arith,
+      length-append (map DelRule (reverse out)) (map App new),
+      length-map (reverse out) DelRule,
+      length-reverse out,
+      length-map new App,
+      pick-count (λ r. mem r kept) initial,
+      ap length (common-occurring (kept-run-occurs initial target) d),
+      ap length (kept-run-front initial target) ∙ length-append kept new,
+    )
+
+-- The script is of type 1.
+plan-one-type : (initial target : List ℕ) → ofType 1 (planOne initial target) ≡ true
+unfolding ofType planOne commandType
+plan-one-type initial target =
+    let test : Command → Bool = λ c. eqb (commandType c) 1 in
+    let out : List ℕ = reverse (missing initial (keptRun initial target)) in
+    let new : List ℕ = drop (length (keptRun initial target)) target in
+    all-append test (map DelRule out) (map App new) (all-map test DelRule out (λ r. refl)) (all-map test App new (λ r. refl))
+
 pub plan-one-reaches : PlanOneReaches
 plan-one-reaches size initial target first last = (
   plan-one-type initial target,
   steps-leads (Orderly initial target) (λ l m. Unit {0}) size initial target (planOne initial target)
       (plan-one-steps size initial target first last),
 )
+
+-- The script deletes rules that are not among the kept, and appends those that stand behind them in the target.
+pub plan-one-spares-kept : PlanOneSparesKept
+unfolding planOne missing
+plan-one-spares-kept size initial target policy last first others c l r e leads touches h =
+    let kept : List ℕ = keptRun initial target in
+    let out : List ℕ = missing initial kept in
+    let new : List ℕ = drop (length kept) target in
+    let sent : List·Memᴰ c (planOne initial target) = rw e (Memᴰ·append-right first (List·Memᴰ·head refl)) in
+    ⊎-elim
+    (λ t. let from = Memᴰ·of-map DelRule (reverse out) t in
+    let is : r ≡ from .0 = rw (← (from .2)) at touches in
+    not-mem r kept (not-true (rw (← is) at (pick-in (λ x. not (mem x kept)) initial (from .0) (reverse-in (from .0) out (from .1)) .1))) h)
+    (λ t. let from = Memᴰ·of-map App new t in
+    let is : r ≡ from .0 = rw (← (from .2)) at touches in
+    distinct-apart kept new (rw (kept-run-front initial target) at (last .distinct)) r h (Memᴰ·cast is (from .1)))
+    (List·Memᴰ·append-cases (map DelRule (reverse out)) sent)

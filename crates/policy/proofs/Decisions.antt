@@ -8,7 +8,7 @@ use mathlib.Core.Logic.{_⊎_, inl, inr, ⊎-elim, ⊎-map, _≢_}
 use mathlib.Core.List.{List, [], _∷_, List·Memᴰ·head, List·Memᴰ·tail, List·Memᴰ·cases-cons, List·Memᴰ·not-nil}
 use Rattle.policy.specs.Policy.{Matching, decideFrom, decide, decided, sameAction}
 use Rattle.policy.specs.Properties.{In, Distinct, Within, Precedes, SupportedBy, Ordered, Full}
-use Rattle.policy.specs.Claims.{OrderedAndFullDecidesAsOne, OrderedKeepsTheDefault}
+use Rattle.policy.specs.Claims.{NoMatch, OrderedAndFullDecidesAsOne, OrderedKeepsTheDefault}
 use Rattle.policy.specs.declared.Action.{Action}
 use Rattle.policy.specs.declared.Action.the-variants.{Deny, Permit}
 use Rattle.policy.proofs.Tests.{byTest, never, not-first, not-second}
@@ -35,12 +35,9 @@ pub record FirstHit (m : Matching) (l : List ℕ) (r : ℕ) : Type 0 where
   pub hits : m .hit r ≡ true
   pub first : (x : ℕ) → Precedes x r l → m .hit x ≡ false
 
-abbrev NoHit : Matching → List ℕ → Type 0
-NoHit m l = (x : ℕ) → In x l → m .hit x ≡ false
-
 -- the list decides the flow by the rule that decides it in the policy, or neither has such a rule
 abbrev pub Agrees : Matching → List ℕ → List ℕ → Type 0
-Agrees m policy l = ((r : ℕ) × FirstHit m policy r × FirstHit m l r) ⊎ (NoHit m policy × NoHit m l)
+Agrees m policy l = ((r : ℕ) × FirstHit m policy r × FirstHit m l r) ⊎ (NoMatch m policy × NoMatch m l)
 
 module _ (m : Matching) where
   -- Lists by their head. The place from which a list is counted has no part in the action.
@@ -74,12 +71,12 @@ module _ (m : Matching) where
       ∙ ⊎-elim (λ e. ap (m .action) (sym e)) (λ k. never t (h .first x (inl (refl, k)))) (List·Memᴰ·cases-cons (h .there)))
       (λ f. head-passes x l f ∙ first-hit-decides l r (first-hit-tail x r l f h))
 
-  pub no-hit-decides : (l : List ℕ) → NoHit m l → decided m l ≡ m .default
+  pub no-hit-decides : (l : List ℕ) → NoMatch m l → decided m l ≡ m .default
   unfolding decided decide decideFrom
   no-hit-decides [] h = refl
   no-hit-decides (x ∷ l) h = head-passes x l (h x (List·Memᴰ·head refl)) ∙ no-hit-decides l (λ y k. h y (List·Memᴰ·tail k))
 
-  first-hit-or-none : (l : List ℕ) → Distinct l → ((r : ℕ) × FirstHit m l r) ⊎ NoHit m l
+  first-hit-or-none : (l : List ℕ) → Distinct l → ((r : ℕ) × FirstHit m l r) ⊎ NoMatch m l
   first-hit-or-none [] d = inr (λ x h. absurd (List·Memᴰ·not-nil h))
   first-hit-or-none (x ∷ l) d =
       byTest (m .hit x)
@@ -118,11 +115,11 @@ module _ (m : Matching) where
   supported-agrees policy l r h s =
       inl (r, record { there = s .named; hits = h .hits; first = λ x p. h .first x (s .led x p) }, h)
 
-  within-agrees : (policy l : List ℕ) → NoHit m l → Within policy l → Agrees m policy l
+  within-agrees : (policy l : List ℕ) → NoMatch m l → Within policy l → Agrees m policy l
   within-agrees policy l n w = inr ((λ x h. n x (w x h)), n)
 
   ordered-agrees : (initial target l : List ℕ)
-      → Distinct l → Ordered initial target l → (Agrees m initial l ⊎ Agrees m target l) ⊎ NoHit m l
+      → Distinct l → Ordered initial target l → (Agrees m initial l ⊎ Agrees m target l) ⊎ NoMatch m l
   ordered-agrees initial target l d o =
       ⊎-map
       (λ h. ⊎-map (supported-agrees initial l (h .0) (h .1)) (supported-agrees target l (h .0) (h .1)) (o (h .0) (h .1 .there)))

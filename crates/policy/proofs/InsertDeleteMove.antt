@@ -4,48 +4,23 @@ use Prim.Native.Nat.{ℕ}
 use native.Mathlib.Omega.{arith}
 use mathlib.Core.Path.{_≡_, refl, ap}
 use mathlib.Core.Bool.{true}
-use mathlib.Core.List.{List, [], _∷_, reverse, Sublistᴰ, Sublistᴰ·slnil, Sublistᴰ·cons, Sublistᴰ·cons-cons, Sublistᴰ·nil-sublist}
-use mathlib.Core.Option.{Option, none, some}
+use mathlib.Core.List.{List, [], reverse}
+use mathlib.Core.Option.{Option}
 use lib.Dec.{eqb}
 use lib.ListN.{length, length-append}
-use Rattle.policy.specs.Lists.{mem, after, common, missing}
+use Rattle.policy.specs.Lists.{mem, common, missing}
 use Rattle.policy.specs.Command.{commandType, ofType}
-use Rattle.policy.specs.InsertDeleteMove.{ownChoice, keptTwo, firstStage, secondStage, planTwo, movesInPlace}
-use Rattle.policy.specs.Claims.{Accepted, PlanTwoReaches, PlanTwoCount, PlanTwoMoves}
+use Rattle.policy.specs.InsertDeleteMove.{keptTwo, firstStage, secondStage, planTwo, movesInPlace}
+use Rattle.policy.specs.Claims.{Accepted, PlanTwoReaches, PlanTwoCount, PlanTwoSparesKept, PlanTwoMoves}
 use Rattle.policy.specs.declared.Command.{Command}
 use Rattle.policy.specs.declared.Command.the-variants.{App, DelRule, Ins, DelPlace, Mov}
-use Rattle.policy.proofs.Tests.{byTest}
-use Rattle.policy.proofs.Lists.{mem-in, in-all}
-use Rattle.policy.proofs.Order.{sublist-after}
+use Rattle.policy.proofs.Lists.{in-all}
 use Rattle.policy.proofs.Counting.{common-occurring, pick-count, common-count}
 use Rattle.policy.proofs.Way.{Forward, Sound, Steps, steps-leads}
-use Rattle.policy.proofs.Stages.{Fit, Leg, leg-append, waitingCount, waiting-reverse}
+use Rattle.policy.proofs.Stages.{Fit, spares-untouched, Leg, leg-append, waitingCount, waiting-reverse}
+use Rattle.policy.proofs.Kept.{kept-keepable, to-keep-in}
 use Rattle.policy.proofs.StageOne.{Given, first-stage, first-stage-count}
 use Rattle.policy.proofs.StageTwo.{stage-two, stage-two-count}
-
--- The rules kept occur in order in both policies.
-own-initial : (left target : List ℕ) → Sublistᴰ (ownChoice left target) left
-unfolding ownChoice
-own-initial left [] = Sublistᴰ·nil-sublist left
-own-initial left (r ∷ target) =
-    byTest (mem r left)
-    (λ t. rw (t, ownChoice)
-    (sublist-after r (ownChoice (after r left) target) left (mem-in r left t) (own-initial (after r left) target)))
-    (λ f. rw (f, ownChoice) (own-initial left target))
-
-own-target : (left target : List ℕ) → Sublistᴰ (ownChoice left target) target
-unfolding ownChoice
-own-target left [] = Sublistᴰ·slnil
-own-target left (r ∷ target) =
-    byTest (mem r left)
-    (λ t. rw (t, ownChoice) (Sublistᴰ·cons-cons refl (own-target (after r left) target)))
-    (λ f. rw (f, ownChoice) (Sublistᴰ·cons (own-target left target)))
-
-pub kept-keepable : (size : ℕ) (initial target : List ℕ) (keep : Option (List ℕ)) → Accepted size initial target keep
-    → Sublistᴰ (keptTwo initial target keep) initial × Sublistᴰ (keptTwo initial target keep) target
-unfolding keptTwo
-kept-keepable size initial target none a = (own-initial initial target, own-target initial target)
-kept-keepable size initial target (some keep) a = a .keepable
 
 given : (size : ℕ) (initial target : List ℕ) (keep : Option (List ℕ)) → Accepted size initial target keep
     → Given size initial target (keptTwo initial target keep)
@@ -55,13 +30,13 @@ given size initial target keep a =
 
 -- The whole script.
 plan-two-leg : (size : ℕ) (initial target : List ℕ) (keep : Option (List ℕ)) → Accepted size initial target keep
-    → Leg size initial target initial (planTwo initial target keep) target
+    → Leg size initial target (keptTwo initial target keep) initial (planTwo initial target keep) target
 unfolding planTwo secondStage
 plan-two-leg size initial target keep a =
     let kept = keptTwo initial target keep in
     let one = first-stage size initial target kept (given size initial target keep a) in
     let front = (firstStage initial kept target) .next .front in
-    leg-append (one .1) (stage-two size initial target (a .last .distinct) (reverse front) [] (one .0) (one .2))
+    leg-append (one .1) (stage-two size initial target kept (a .last .distinct) (reverse front) [] (one .0) (one .2))
 
 pub plan-two-steps : (size : ℕ) (initial target : List ℕ) (keep : Option (List ℕ)) → Accepted size initial target keep
     → Steps (Sound initial target) (Forward initial target) size initial (planTwo initial target keep) target
@@ -86,6 +61,13 @@ plan-two-reaches size initial target keep a =
 
 pub plan-two-moves : PlanTwoMoves
 plan-two-moves size initial target keep a i j h = plan-two-leg size initial target keep a .fit (Mov i j) h
+
+-- It touches no rule that is to be kept.
+pub plan-two-spares-kept : PlanTwoSparesKept
+plan-two-spares-kept size initial target keep a kept asked first others c l r e leads touches h =
+    spares-untouched size (keptTwo initial target keep) initial (planTwo initial target keep)
+    (plan-two-leg size initial target keep a .spares) first others c l r e leads touches
+    (to-keep-in size initial target keep a kept asked r h)
 
 -- The number of its commands.
 pub plan-two-count : PlanTwoCount

@@ -7,11 +7,13 @@ pub mod Standing
 pub mod Way
 pub mod Commands
 pub mod Replay
+pub mod FirstMatch
 pub mod Decisions
 pub mod Judge
 pub mod Once
 pub mod AppendDelete
 pub mod Fewest
+pub mod Kept
 pub mod Stages
 pub mod StageOne
 pub mod StageTwo

@@ -1,32 +1,31 @@
 -- What verdicts say of flows, and which verdicts the plans get: the laws on decisions, on the judge and on the two scripts put
--- together. Where nothing is to be done, the counts leave no command. Assumes nothing.
-use Prim.Native.Nat.{ℕ, suc, _+_, _<_}
+-- together. Where nothing is to be done, nothing is sent. Assumes nothing.
+use Prim.Native.Nat.{ℕ}
 use native.Mathlib.Omega.{arith}
-use mathlib.Core.Path.{_≡_, refl, ap}
-use mathlib.Core.Logic.{⊎-elim}
-use mathlib.Core.List.{List, [], _∷_, List·Memᴰ·cases-cons, List·Memᴰ·not-nil, Sublistᴰ·refl}
-use mathlib.Core.Option.{none}
+use mathlib.Core.Path.{_≡_, refl, _∙_, ap}
+use mathlib.Core.List.{List, [], _∷_, _++_, map, reverse, List·Memᴰ, List·Memᴰ·head, List·Memᴰ·tail, Memᴰ·of-map}
+use mathlib.Core.Option.{Option}
 use borrow.Author.Tests.{eq-eqb}
 use lib.ListN.{length}
-use Rattle.policy.specs.Lists.{mem, after}
+use lib.Seq.{append-snoc}
+use Rattle.policy.specs.Lists.{mem, before, after, without}
 use Rattle.policy.specs.AppendDelete.{planOne}
-use Rattle.policy.specs.InsertDeleteMove.{ownChoice, keptTwo, planTwo}
+use Rattle.policy.specs.InsertDeleteMove.{keptTwo, Standing, settled, waiting, Halves, Taken, reached, moveUp, raised}
+use Rattle.policy.specs.InsertDeleteMove.{takeOne, stageOne, firstStage, stageTwo, secondStage, planTwo}
 use Rattle.policy.specs.Judge.{verdict, verdictNumbers}
-use Rattle.policy.specs.Properties.{In, Distinct, After}
+use Rattle.policy.specs.Properties.{In, Distinct, Within, After}
 use Rattle.policy.specs.Claims.{Policy, SafeDecidesAsOne, NotFullKeepsTheDefault, PlanOneVerdict, PlanOneKeepsTheDefault}
 use Rattle.policy.specs.Claims.{PlanTwoVerdict, PlanTwoChangesOnce, NothingToDo, PlansFit}
 use Rattle.policy.specs.declared.Command.{Command}
-use Rattle.policy.specs.declared.Verdict.the-variants.{Safe}
-use Rattle.policy.proofs.Tests.{or-left}
-use Rattle.policy.proofs.Numbers.{verdict-numbers-differ}
-use Rattle.policy.proofs.Lists.{length-nil}
-use Rattle.policy.proofs.Counting.{common-occurring}
+use Rattle.policy.proofs.Tests.{byTest}
+use Rattle.policy.proofs.Lists.{in-mem, length-nil, reverse-in}
 use Rattle.policy.proofs.Way.{Forward, Orderly, Sound, initial-sound, Steps, steps-leads}
 use Rattle.policy.proofs.Replay.{steps-after, after-distinct}
 use Rattle.policy.proofs.Decisions.{ordered-and-full-decides-as-one, ordered-keeps-the-default}
 use Rattle.policy.proofs.Judge.{verdict-not-full, verdict-safe, all-ordered-passes}
 use Rattle.policy.proofs.Once.{steps-change-once}
 use Rattle.policy.proofs.AppendDelete.{kept-run-self, plan-one-count, plan-one-steps, plan-one-reaches}
+use Rattle.policy.proofs.StageOne.{settled-waiting}
 use Rattle.policy.proofs.InsertDeleteMove.{plan-two-steps, plan-two-count}
 
 pub safe-decides-as-one : SafeDecidesAsOne
@@ -79,43 +78,59 @@ pub plan-two-changes-once : PlanTwoChangesOnce
 plan-two-changes-once m size initial target keep a =
     steps-change-once m size initial target initial (planTwo initial target keep) (plan-two-steps size initial target keep a)
 
--- "I = T": every rule is kept, and the count leaves no command.
-own-choice-self : (l : List ℕ) → ownChoice l l ≡ l
-unfolding ownChoice mem after
-own-choice-self [] = refl
-own-choice-self (x ∷ l) =
-    let here = eq-eqb x x refl in
-    rw (or-left (mem x l) here, ownChoice) (rw here (ap (λ (m : List ℕ). x ∷ m) (own-choice-self l)))
-
+-- "I = T": type 1 keeps every rule, and the count leaves no command. In type 2 each rule of the target stands right after the
+-- front when it is taken, kept or not; so it joins the front, settled, and nothing is sent.
 plan-one-nothing : (initial : List ℕ) → Distinct initial → planOne initial initial ≡ []
 plan-one-nothing initial d =
     length-nil (planOne initial initial) (omega (arith, plan-one-count initial initial d, ap length (kept-run-self initial)))
 
--- a catalogue that is large enough for a list
-room-for : (l : List ℕ) → (size : ℕ) × ((r : ℕ) → In r l → r < size)
-room-for [] = (0, λ r h. absurd (List·Memᴰ·not-nil h))
-room-for (x ∷ l) =
-    let others = room-for l in (
-      suc (x + others .0),
-      λ r h. ⊎-elim (λ e. omega (arith, e)) (λ t. omega (arith, others .1 r t)) (List·Memᴰ·cases-cons h),
+take-nothing : (initial kept : List ℕ) (front : List Standing) (r : ℕ) (rest : List ℕ) → In r initial
+    → ((takeOne initial kept (record { front = front; rest = r ∷ rest }) r) .sent ≡ [])
+    × ((takeOne initial kept (record { front = front; rest = r ∷ rest }) r) .next
+    ≡ record { front = front ++ (settled r ∷ []); rest = rest })
+unfolding takeOne reached raised moveUp mem before after without
+take-nothing initial kept front r rest h =
+    let here = eq-eqb r r refl in
+    byTest (mem r kept)
+    (λ t. rw (in-mem r initial h, t, here) (refl, refl))
+    (λ f. rw (in-mem r initial h, f, here) (refl, refl))
+
+stage-one-nothing : (initial kept : List ℕ) (front : List Standing) (ts : List ℕ) → Within ts initial
+    → ((stageOne initial kept (record { front = front; rest = ts }) ts) .sent ≡ [])
+    × ((stageOne initial kept (record { front = front; rest = ts }) ts) .next .front ≡ front ++ map settled ts)
+unfolding stageOne
+stage-one-nothing initial kept front [] w = (refl, refl)
+stage-one-nothing initial kept front (r ∷ ts) w =
+    let one = take-nothing initial kept front r ts (w r (List·Memᴰ·head refl)) in
+    let others = stage-one-nothing initial kept (front ++ (settled r ∷ [])) ts (λ x h. w x (List·Memᴰ·tail h)) in
+    let then : Halves → Taken = λ h. stageOne initial kept h ts in (
+      rw (one .0) (ap (λ (h : Halves). (then h) .sent) (one .1) ∙ others .0),
+      ap (λ (h : Halves). (then h) .next .front) (one .1) ∙ others .1 ∙ append-snoc front (settled r) (map settled ts),
     )
 
-plan-two-nothing : (initial : List ℕ) → Distinct initial → planTwo initial initial none ≡ []
-unfolding keptTwo
-plan-two-nothing initial d =
-    let large = room-for initial in
-    let policy : Policy (large .0) initial = record { inside = large .1; distinct = d } in
-    let count = plan-two-count (large .0) initial initial none (record { first = policy; last = policy; keepable = tt }) in
-    length-nil (planTwo initial initial none)
-    (omega (arith, count, ap length (common-occurring (Sublistᴰ·refl initial) d), ap length (own-choice-self initial)))
+stage-two-nothing : (target : List ℕ) (front : List Standing) (done : List ℕ)
+    → ((w : ℕ) → ¬ List·Memᴰ (waiting w) front) → stageTwo target front done ≡ []
+unfolding stageTwo
+stage-two-nothing target [] done n = refl
+stage-two-nothing target (settled r ∷ front) done n =
+    stage-two-nothing target front (r ∷ done) (λ w h. n w (List·Memᴰ·tail h))
+stage-two-nothing target (waiting r ∷ front) done n = absurd (n r (List·Memᴰ·head refl))
+
+plan-two-nothing : (initial : List ℕ) (keep : Option (List ℕ)) → planTwo initial initial keep ≡ []
+unfolding planTwo firstStage secondStage
+plan-two-nothing initial keep =
+    let one = stage-one-nothing initial (keptTwo initial initial keep) [] initial (λ r h. h) in
+    let settles = stage-two-nothing initial (reverse (map settled initial)) []
+    (λ w h. let from = Memᴰ·of-map settled initial (reverse-in (waiting w) (map settled initial) h) in
+    settled-waiting (from .0) w (from .2)) in
+    rw (one .0, one .1) settles
 
 pub nothing-to-do : NothingToDo
 unfolding verdictNumbers
-nothing-to-do size initial d = (
+nothing-to-do size initial keep d = (
   plan-one-nothing initial d,
-  plan-two-nothing initial d,
-  verdict-numbers-differ (verdict size initial initial []) Safe
-      (sound-safe size initial initial [] d d (initial-sound initial initial d, refl)),
+  plan-two-nothing initial keep,
+  sound-safe size initial initial [] d d (initial-sound initial initial d, refl),
 )
 
 -- "A planned script .. never exceeds 1,024 commands"

@@ -6,13 +6,17 @@ use native.Mathlib.Omega.{arith}
 use mathlib.Core.Path.{_≡_, refl, _∙_, ap}
 use mathlib.Core.Logic.{_⊎_, inl, inr, ⊎-elim}
 use mathlib.Core.List.{List, [], _∷_, _++_, append-nil}
+use borrow.Author.Tests.{ltb-true, ltb-false}
+use lib.Dec.{ltb}
 use lib.ListN.{length, take, getD}
 use Rattle.policy.specs.Command.{faultNumber}
 use Rattle.policy.specs.Replay.{ended, broken, replayFrom, replay, lists}
 use Rattle.policy.specs.Properties.{Distinct, Makes, Leads, After}
 use Rattle.policy.specs.Claims.{Policy, ReplayIsLeads, ListsAreAfter, BreaksAt, RunningListFits}
+use Rattle.policy.specs.Claims.{EachListIsAfter, ListsAreOneMore}
 use Rattle.policy.specs.declared.Command.{Command}
 use Rattle.policy.specs.declared.Fault.{Fault}
+use Rattle.policy.proofs.Tests.{byTest}
 use Rattle.policy.proofs.Counting.{inside-length}
 use Rattle.policy.proofs.Way.{Steps}
 use Rattle.policy.proofs.Commands.{makes-or-fails, makes-passes, fails-failed, makes-unique, makes-distinct, makes-policy}
@@ -113,16 +117,38 @@ lists-are-after size l (c ∷ script) (suc k) m h =
     let at = lists-are-after size x script k m (record { reached = le-of-suc-le-suc (h .reached); leads = rest }) in
     rw (makes-passes size l c x made) (omega (arith, at .0), at .1)
 
+pub each-list-is-after : EachListIsAfter
+unfolding lists
+each-list-is-after size l [] zero inside = record { reached = zero-le; leads = refl }
+each-list-is-after size l [] (suc k) inside = absurd (not-suc-le-zero (le-of-suc-le-suc inside))
+each-list-is-after size l (c ∷ script) zero inside = record { reached = zero-le; leads = refl }
+each-list-is-after size l (c ∷ script) (suc k) inside =
+    ⊎-elim
+    (λ h. let (m, made) = h in
+    let passes = makes-passes size l c m made in
+    let later = each-list-is-after size m script k (le-of-suc-le-suc (rw passes at inside)) in
+    rw passes record { reached = suc-le-suc (later .reached); leads = (m, made, later .leads) })
+    (λ h. absurd (not-suc-le-zero (le-of-suc-le-suc (rw (fails-failed size l c (h .0) (h .1)) at inside))))
+    (makes-or-fails size l c)
+
 pub lists-after : (size : ℕ) (l n : List ℕ) (script : List Command) → Leads size l script n
     → (k : ℕ) → k < length (lists size l script) → After size l script k (getD (lists size l script) k [])
-unfolding lists
-lists-after size l n [] h zero inside = record { reached = zero-le; leads = refl }
-lists-after size l n [] h (suc k) inside = absurd (not-suc-le-zero (le-of-suc-le-suc inside))
-lists-after size l n (c ∷ script) h zero inside = record { reached = zero-le; leads = refl }
-lists-after size l n (c ∷ script) (m, made, rest) (suc k) inside =
-    let passes = makes-passes size l c m made in
-    let later = lists-after size m n script rest k (le-of-suc-le-suc (rw passes at inside)) in
-    rw passes record { reached = suc-le-suc (later .reached); leads = (m, made, later .leads) }
+lists-after size l n script h = each-list-is-after size l script
+
+pub lists-are-one-more : ListsAreOneMore
+lists-are-one-more size l script commands =
+    let way = lists size l script in (
+      λ p. let least = lists-are-after size l script commands (p .last) (p .after) .0 in
+          byTest (ltb (suc commands) (length way))
+          (λ t. absurd (p .no-more (getD way (suc commands) [])
+          (each-list-is-after size l script (suc commands) (ltb-true (suc commands) (length way) t))))
+          (λ f. omega (arith, least, ltb-false (suc commands) (length way) f)),
+      λ e. record {
+        last = getD way commands [];
+        after = each-list-is-after size l script commands (omega (arith, e));
+        no-more = λ m h. absurd (omega (arith, e, lists-are-after size l script (suc commands) m h .0));
+      },
+    )
 
 -- the list after some commands is the first one, or comes after the first command
 pub after-none : (size : ℕ) (l x : List ℕ) (k : ℕ) → After size l [] k x → l ≡ x

@@ -7,7 +7,7 @@ use mathlib.Core.Path.{_≡_, refl, sym, _∙_, ap}
 use mathlib.Core.Bool.{not}
 use mathlib.Core.Logic.{inl, inr, ⊎-elim, ⊎-map, _≢_}
 use mathlib.Core.List.{List, [], _∷_, _++_, map, reverse, map-append, append-nil, append-assoc}
-use mathlib.Core.List.{List·Memᴰ·head, List·Memᴰ·tail, Memᴰ·cast, Memᴰ·append-left, Memᴰ·append-right, Memᴰ·map, Memᴰ·of-map}
+use mathlib.Core.List.{List·Memᴰ, List·Memᴰ·head, List·Memᴰ·tail, Memᴰ·cast, Memᴰ·append-left, Memᴰ·append-right, Memᴰ·map, Memᴰ·of-map}
 use mathlib.Core.List.{List·Memᴰ·append-cases, List·Memᴰ·cases-cons, List·Memᴰ·eq-of-singleton, List·Memᴰ·not-nil}
 use mathlib.Core.List.{Sublistᴰ}
 use borrow.Author.Tests.{eqb-true, eqb-false}
@@ -29,7 +29,8 @@ use Rattle.policy.proofs.Counting.{pick-append, one-of, none-of}
 use Rattle.policy.proofs.Standing.{Follows, follows-back, precedes-behind, without-absent, without-sublist, raised-in}
 use Rattle.policy.proofs.Standing.{raised-back, raised-distinct, precedes-raised}
 use Rattle.policy.proofs.Way.{Forward, Sound, initial-sound}
-use Rattle.policy.proofs.Stages.{Leg, leg-none, leg-one, leg-append, rules-join, standing-reverse, Settles, Waits, Passing}
+use Rattle.policy.proofs.Stages.{Leg, leg-none, leg-one, leg-append, lifts, rules-join, standing-reverse, Settles, Waits}
+use Rattle.policy.proofs.Stages.{Unkept, Passing}
 use Rattle.policy.proofs.Stages.{waitingCount, waiting-append, waiting-all}
 
 -- two policies that the reader accepts, and rules to keep that occur in order in both
@@ -53,6 +54,7 @@ record Split (initial target kept taken ts : List ℕ) (front : List Standing) (
   pending : (x : ℕ) → In x ts → In x kept → In x rest
   settles : Settles taken target front l
   waits : Waits target front l
+  unkept : Unkept kept front
 
 -- the same between two rules of the target: the rest follows the initial policy, and a rule still to be inserted is not there
 record Halfway (initial target kept taken ts : List ℕ) (front : List Standing) (rest l : List ℕ) : Type 0 where
@@ -110,8 +112,9 @@ module _ (size : ℕ) (initial target kept : List ℕ) (given : Given size initi
       → Split initial target kept taken ts front (b ++ a) l
       → ((x : ℕ) → In x ts → In x kept → In x a)
       → ((w : ℕ) → In w b → In w target → (s : ℕ) × Precedes w s l × Precedes s w target)
+      → ((w : ℕ) → In w b → ¬ In w kept)
       → Split initial target kept taken ts (front ++ map waiting b) a l
-  join-waiting taken ts front b a l p pending reasons =
+  join-waiting taken ts front b a l p pending reasons unkept =
       record {
         taking = p .taking;
         is = p .is ∙ sym (append-assoc (map ruleOf front) b a) ∙ ap (λ (m : List ℕ). m ++ a) (sym (rules-join front b));
@@ -130,6 +133,12 @@ module _ (size : ℕ) (initial target kept : List ℕ) (given : Given size initi
             let e : w ≡ from .0 = cc (from .2) in
             reasons w (Memᴰ·cast e (from .1)))
             (List·Memᴰ·append-cases front h);
+        unkept = λ w h.
+            ⊎-elim (λ k. p .unkept w k)
+            (λ k. let from = Memᴰ·of-map waiting b k in
+            let e : w ≡ from .0 = cc (from .2) in
+            unkept w (Memᴰ·cast e (from .1)))
+            (List·Memᴰ·append-cases front h);
       }
 
   -- the rule of the target that is next, once it stands first in the rest, joins the front, settled
@@ -143,6 +152,8 @@ module _ (size : ℕ) (initial target kept : List ℕ) (given : Given size initi
       let was : Distinct (u ++ (r ∷ rest)) = rw at at (p .distinct) in
       let rules : map ruleOf (front ++ (settled r ∷ [])) ≡ u ++ (r ∷ []) = map-append ruleOf front (settled r ∷ []) in
       let apart : Distinct (taken ++ (r ∷ ts)) = rw (p .taking) at (given .new .distinct) in
+      let earlier : (w : ℕ) → List·Memᴰ (waiting w) (front ++ (settled r ∷ [])) → List·Memᴰ (waiting w) front =
+      λ w h. not-second (λ k. settled-waiting r w (sym (List·Memᴰ·eq-of-singleton k))) (List·Memᴰ·append-cases front h) in
       record {
         taking = p .taking ∙ sym (append-snoc taken r ts);
         is = at ∙ sym (append-snoc u r rest) ∙ ap (λ (m : List ℕ). m ++ rest) (sym rules);
@@ -166,9 +177,8 @@ module _ (size : ℕ) (initial target kept : List ℕ) (given : Given size initi
                   (λ i. not-later r u rest was (Memᴰ·cast (sym i) behind))),
             ))
             (List·Memᴰ·append-cases front h);
-        waits = λ w h.
-            p .waits w (not-second (λ k. settled-waiting r w (sym (List·Memᴰ·eq-of-singleton k)))
-            (List·Memᴰ·append-cases front h));
+        waits = λ w h. p .waits w (earlier w h);
+        unkept = λ w h. p .unkept w (earlier w h);
       }
 
   -- the rule of the target that is next is put first in the rest, from a later place there or from outside
@@ -224,6 +234,7 @@ module _ (size : ℕ) (initial target kept : List ℕ) (given : Given size initi
                   (rw at at (reason .1)),
               reason .2,
             );
+        unkept = p .unkept;
       }
 
   -- a rule moved up over rules of the rest passes none that comes after it in the initial policy
@@ -270,7 +281,7 @@ module _ (size : ℕ) (initial target kept : List ℕ) (given : Given size initi
   -- what is to be shown of one rule of the target
   abbrev Took : (taken ts : List ℕ) (r : ℕ) (l : List ℕ) → Taken → Type 0
   Took taken ts r l one =
-      (m : List ℕ) × Leg size initial target l (one .sent) m
+      (m : List ℕ) × Leg size initial target kept l (one .sent) m
       × Halfway initial target kept (taken ++ (r ∷ [])) ts (one .next .front) (one .next .rest) m
 
   -- "not in the initial policy: insert it right after the front; it joins, settled"
@@ -296,17 +307,19 @@ module _ (size : ℕ) (initial target kept : List ℕ) (given : Given size initi
           refl,
         )
             (rw at (rw same at (raise-forward r u (h .rest) n whole (p .trails))))
-            tt,
+            tt
+            (λ x e k. new (sublist-in (given .kept-initial) r (Memᴰ·cast (sym e) k))),
         then,
       )
 
   -- "move it right after the front, or send nothing if it stands there"
   move-up-leg : (n : ℕ) (r : ℕ) (u b a l : List ℕ) → n ≡ length u → l ≡ u ++ (b ++ (r ∷ a))
       → Sound initial target l → Sound initial target (u ++ (r ∷ (b ++ a))) → Forward initial target l (u ++ (r ∷ (b ++ a)))
-      → Leg size initial target l (moveUp n b) (u ++ (r ∷ (b ++ a)))
+      → ¬ In r kept
+      → Leg size initial target kept l (moveUp n b) (u ++ (r ∷ (b ++ a)))
   unfolding moveUp
-  move-up-leg n r u [] a l counted at was now forward = leg-none was at
-  move-up-leg n r u (x ∷ b) a l counted at was now forward =
+  move-up-leg n r u [] a l counted at was now forward other = leg-none was at
+  move-up-leg n r u (x ∷ b) a l counted at was now forward other =
       leg-one (Mov (suc (n + length (x ∷ b))) (suc n)) was now (
         u ++ (x ∷ b),
         r,
@@ -321,12 +334,14 @@ module _ (size : ℕ) (initial target kept : List ℕ) (given : Given size initi
       )
       forward
       (omega arith)
+      (lifts (u ++ (x ∷ b)) r a (omega (arith, length-append u (x ∷ b))) (at ∙ sym (append-assoc u (x ∷ b) (r ∷ a))) other)
 
   -- "common, not kept, not yet in the front: .. it joins, settled"
   move : (taken ts : List ℕ) (r : ℕ) (h : Halves) (l : List ℕ)
-      → Halfway initial target kept taken (r ∷ ts) (h .front) (h .rest) l → In r (h .rest) → Took taken ts r l (raised h r)
+      → Halfway initial target kept taken (r ∷ ts) (h .front) (h .rest) l → ¬ In r kept → In r (h .rest)
+      → Took taken ts r l (raised h r)
   unfolding raised without
-  move taken ts r h l p there =
+  move taken ts r h l p other there =
       let u = map ruleOf (h .front) in
       let b = before r (h .rest) in
       let a = after r (h .rest) in
@@ -337,7 +352,8 @@ module _ (size : ℕ) (initial target kept : List ℕ) (given : Given size initi
         u ++ (r ∷ (b ++ a)),
         move-up-leg (length (h .front)) r u b a l (sym (length-map (h .front) ruleOf))
             (at ∙ ap (λ (m : List ℕ). u ++ m) (before-after r (h .rest) there))
-            (split-sound (p .split)) (split-sound (then .split)) (rw at (raise-forward r u (h .rest) n whole (p .trails))),
+            (split-sound (p .split)) (split-sound (then .split)) (rw at (raise-forward r u (h .rest) n whole (p .trails)))
+            other,
         then,
       )
 
@@ -371,7 +387,12 @@ module _ (size : ℕ) (initial target kept : List ℕ) (given : Given size initi
             (λ t. distinct-apart u (b ++ (r ∷ a)) was w (p .split .joined w t) (Memᴰ·append-left (r ∷ a) i))
             (λ e. not-earlier r b a (distinct-right u (b ++ (r ∷ a)) was) (Memᴰ·cast (sym e) i)),
       ) in
-      let joined = join-waiting taken (r ∷ ts) (h .front) b (r ∷ a) l (rw shape at (p .split)) pending reasons in (
+      let unkept : (w : ℕ) → In w b → ¬ In w kept =
+      λ w i j. ⊎-elim
+      (λ t. distinct-apart u (b ++ (r ∷ a)) was w (p .split .joined w t) (Memᴰ·append-left (r ∷ a) i))
+      (λ t. distinct-apart b (r ∷ a) (distinct-right u (b ++ (r ∷ a)) was) w i (pending w t j))
+      (List·Memᴰ·append-cases taken (rw (p .split .taking) at (sublist-in (given .kept-target) w j))) in
+      let joined = join-waiting taken (r ∷ ts) (h .front) b (r ∷ a) l (rw shape at (p .split)) pending reasons unkept in (
         l,
         leg-none (split-sound (p .split)) refl,
         record {
@@ -408,6 +429,7 @@ module _ (size : ℕ) (initial target kept : List ℕ) (given : Given size initi
                 pending = λ x k. p .split .pending x (List·Memᴰ·tail k);
                 settles = λ s k. (Memᴰ·append-left (r ∷ []) (p .split .settles s k .0), p .split .settles s k .1);
                 waits = p .split .waits;
+                unkept = p .split .unkept;
               };
           trails = p .trails;
           fresh = λ x i j. p .fresh x (List·Memᴰ·tail i) j;
@@ -420,17 +442,18 @@ module _ (size : ℕ) (initial target kept : List ℕ) (given : Given size initi
       take-cases (Took taken ts r l) initial kept h r
       (λ new. insert taken ts r h l p new)
       (λ old k. reach taken ts r h l p k)
-      (λ old n k. move taken ts r h l p k)
+      (λ old n k. move taken ts r h l p n k)
       (λ old n k. pass taken ts r h l p old k)
 
   -- "At the end all remaining rules join, waiting": none of them is in the target
   finish : (front : List Standing) (rest l : List ℕ)
-      → Split initial target kept target [] front rest l → Passing initial target (reverse (front ++ map waiting rest)) [] l
+      → Split initial target kept target [] front rest l → Passing initial target kept (reverse (front ++ map waiting rest)) [] l
   finish front rest l p =
       let was : Distinct (map ruleOf front ++ rest) = rw (p .is) at (p .distinct) in
       let q =
       join-waiting target [] front rest [] l (rw (append-nil rest) p) (λ x h. absurd (List·Memᴰ·not-nil h))
-      (λ w h k. absurd (distinct-apart (map ruleOf front) rest was w (p .joined w k) h)) in
+      (λ w h k. absurd (distinct-apart (map ruleOf front) rest was w (p .joined w k) h))
+      (λ w h k. distinct-apart (map ruleOf front) rest was w (p .joined w (sublist-in (given .kept-target) w k)) h) in
       let all = front ++ map waiting rest in
       record {
         is = q .is ∙ ap (λ (m : List ℕ). m ++ []) (sym (standing-reverse all []));
@@ -441,11 +464,12 @@ module _ (size : ℕ) (initial target kept : List ℕ) (given : Given size initi
         follows = λ a b h. absurd h;
         settles = λ s h. q .settles s (reverse-in (settled s) all h);
         waits = λ w h. q .waits w (reverse-in (waiting w) all h);
+        unkept = λ w h. q .unkept w (reverse-in (waiting w) all h);
       }
 
   stage-one : (ts taken : List ℕ) (h : Halves) (l : List ℕ) → Halfway initial target kept taken ts (h .front) (h .rest) l
-      → (m : List ℕ) × Leg size initial target l ((stageOne initial kept h ts) .sent) m
-      × Passing initial target (reverse ((stageOne initial kept h ts) .next .front)) [] m
+      → (m : List ℕ) × Leg size initial target kept l ((stageOne initial kept h ts) .sent) m
+      × Passing initial target kept (reverse ((stageOne initial kept h ts) .next .front)) [] m
   unfolding stageOne
   stage-one [] taken h l p =
       let e : taken ≡ target = sym (p .split .taking ∙ append-nil taken) in
@@ -525,14 +549,15 @@ module _ (size : ℕ) (initial target kept : List ℕ) (given : Given size initi
               pending = λ x h k. sublist-in (given .kept-initial) x k;
               settles = λ s h. absurd (List·Memᴰ·not-nil h);
               waits = λ w h. absurd (List·Memᴰ·not-nil h);
+              unkept = λ w h. absurd (List·Memᴰ·not-nil h);
             };
         trails = λ a b q. q;
         fresh = λ x h k. k;
       }
 
   pub first-stage :
-      (m : List ℕ) × Leg size initial target initial ((firstStage initial kept target) .sent) m
-      × Passing initial target (reverse ((firstStage initial kept target) .next .front)) [] m
+      (m : List ℕ) × Leg size initial target kept initial ((firstStage initial kept target) .sent) m
+      × Passing initial target kept (reverse ((firstStage initial kept target) .next .front)) [] m
   unfolding firstStage
   first-stage = stage-one target [] (record { front = []; rest = initial }) initial start
 

@@ -26,7 +26,7 @@ use Rattle.policy.proofs.Standing.{Follows, follows-back, follows-aroun
 use Rattle.policy.proofs.Standing.{lowered-in, lowered-back, lowered-distinct, precedes-lowered}
 use Rattle.policy.proofs.Way.{Forward, Sound}
 use Rattle.policy.proofs.Commands.{placed-at}
-use Rattle.policy.proofs.Stages.{Leg, leg-none, leg-one, leg-append, standing, standing-in, standing-length, Passing}
+use Rattle.policy.proofs.Stages.{Leg, leg-none, leg-one, leg-append, lifts, standing, standing-in, standing-length, Passing}
 use Rattle.policy.proofs.Stages.{waitingCount}
 
 -- `done`, cut where a rule of the target goes into it: behind the rules that do not come after that one in the target
@@ -74,18 +74,18 @@ cut target r (y ∷ done) d f =
       late = below .late;
     })
 
-passing-sound : {initial target : List ℕ} {left : List Standing} {done l : List ℕ}
-    → Passing initial target left done l → Sound initial target l
+passing-sound : {initial target kept : List ℕ} {left : List Standing} {done l : List ℕ}
+    → Passing initial target kept left done l → Sound initial target l
 passing-sound p = record { distinct = p .distinct; ordered = p .ordered; full = inr (p .whole) }
 
-module _ (size : ℕ) (initial target : List ℕ) (d : Distinct target) where
+module _ (size : ℕ) (initial target kept : List ℕ) (d : Distinct target) where
   opened : (x : Standing) (left : List Standing) (done l : List ℕ)
-      → Passing initial target (x ∷ left) done l → l ≡ standing left ++ (ruleOf x ∷ done)
+      → Passing initial target kept (x ∷ left) done l → l ≡ standing left ++ (ruleOf x ∷ done)
   opened x left done l p = p .is ∙ append-snoc (standing left) (ruleOf x) done
 
   -- a settled rule at the end of the front becomes the first of `done`: the list stays as it is
   pass-settled : (r : ℕ) (left : List Standing) (done l : List ℕ)
-      → Passing initial target (settled r ∷ left) done l → Passing initial target left (r ∷ done) l
+      → Passing initial target kept (settled r ∷ left) done l → Passing initial target kept left (r ∷ done) l
   unfolding ruleOf
   pass-settled r left done l p =
       let at : l ≡ standing left ++ (r ∷ done) = opened (settled r) left done l p in
@@ -101,14 +101,15 @@ module _ (size : ℕ) (initial target : List ℕ) (d : Distinct target) where
             (p .follows);
         settles = λ s h. p .settles s (List·Memᴰ·tail h);
         waits = λ s h. p .waits s (List·Memᴰ·tail h);
+        unkept = λ w h. p .unkept w (List·Memᴰ·tail h);
       }
 
   -- a waiting rule at the end of the front is deleted, or goes into `done`: what is left of the front stays as it is
-  pass-waiting : (r : ℕ) (left : List Standing) (done now l : List ℕ) → Passing initial target (waiting r ∷ left) done l
+  pass-waiting : (r : ℕ) (left : List Standing) (done now l : List ℕ) → Passing initial target kept (waiting r ∷ left) done l
       → Distinct (standing left ++ now)
       → Within now (r ∷ done) → ((x : ℕ) → In x target → In x (r ∷ done) → In x now)
       → Within now target → Follows now target
-      → Passing initial target left now (standing left ++ now)
+      → Passing initial target kept left now (standing left ++ now)
   unfolding ruleOf
   pass-waiting r left done now l p distinct fewer enough inside follows =
       let u = standing left in
@@ -117,7 +118,7 @@ module _ (size : ℕ) (initial target : List ℕ) (d : Distinct target) where
       let whole : Within target (u ++ now) =
       λ x h. ⊎-elim (λ k. Memᴰ·append-left now k) (λ k. Memᴰ·append-right u (enough x h k))
       (List·Memᴰ·append-cases u (rw at at (p .whole x h))) in
-      let kept : (policy : List ℕ) (x : ℕ) → In x u → SupportedBy policy l x → SupportedBy policy (u ++ now) x =
+      let holds : (policy : List ℕ) (x : ℕ) → In x u → SupportedBy policy l x → SupportedBy policy (u ++ now) x =
       λ policy x h s. record {
         named = s .named;
         led = λ y q. precedes-left y x u now (precedes-front y x u (r ∷ done) was h (rw at at (s .led y q)));
@@ -127,7 +128,7 @@ module _ (size : ℕ) (initial target : List ℕ) (d : Distinct target) where
         distinct = distinct;
         ordered = λ x h.
             ⊎-elim
-            (λ k. ⊎-map (kept initial x k) (kept target x k)
+            (λ k. ⊎-map (holds initial x k) (holds target x k)
             (p .ordered x (rw at (Memᴰ·append-left (r ∷ done) k))))
             (λ k. inr (record {
               named = inside x k;
@@ -153,6 +154,7 @@ module _ (size : ℕ) (initial target : List ℕ) (d : Distinct target) where
                   (enough s (precedes-in-left s w target (was-waiting .2))) (rw at at (was-waiting .1)),
               was-waiting .2,
             );
+        unkept = λ w h. p .unkept w (List·Memᴰ·tail h);
       }
 
   -- a rule that is not in the target is taken out
@@ -193,29 +195,30 @@ module _ (size : ℕ) (initial target : List ℕ) (d : Distinct target) where
       }
 
   -- "One that is not in the target is deleted."
-  delete : (r : ℕ) (left : List Standing) (done l : List ℕ) → ¬ In r target → Passing initial target (waiting r ∷ left) done l
-      → Passing initial target left done (standing left ++ done)
-      × Leg size initial target l (DelPlace (suc (length left)) ∷ []) (standing left ++ done)
+  delete : (r : ℕ) (left : List Standing) (done l : List ℕ) → ¬ In r target → Passing initial target kept (waiting r ∷ left) done l
+      → Passing initial target kept left done (standing left ++ done)
+      × Leg size initial target kept l (DelPlace (suc (length left)) ∷ []) (standing left ++ done)
   unfolding ruleOf
   delete r left done l n p =
       let u = standing left in
       let at : l ≡ u ++ (r ∷ done) = opened (waiting r) left done l p in
       let was : Distinct (u ++ (r ∷ done)) = rw at at (p .distinct) in
-      let now : Passing initial target left done (u ++ done) =
+      let now : Passing initial target kept left done (u ++ done) =
       pass-waiting r left done done l p (distinct-around r u done was .1) (λ x h. List·Memᴰ·tail h)
       (λ x h k. not-first (λ e. n (Memᴰ·cast (sym e) h)) (List·Memᴰ·cases-cons k)) (p .inside) (p .follows) in (
         now,
         leg-one (DelPlace (suc (length left))) (passing-sound p) (passing-sound now)
             (u, r, done, ap suc (sym (standing-length left)), at, refl)
-            (rw at (deleted-forward r u done n was)) tt,
+            (rw at (deleted-forward r u done n was)) tt
+            (lifts u r done (ap suc (sym (standing-length left))) at (p .unkept r (List·Memᴰ·head refl))),
       )
 
   -- "Any other is moved to stand just before the first settled rule that follows it in the target, or to the end if there is
   -- none". It had a reason to wait, which now stands in `done` and precedes it in the target: so it does move.
-  lower : (r : ℕ) (left : List Standing) (done now l : List ℕ) → In r target → Passing initial target (waiting r ∷ left) done l
+  lower : (r : ℕ) (left : List Standing) (done now l : List ℕ) → In r target → Passing initial target kept (waiting r ∷ left) done l
       → now ≡ placed (suc (ahead target r done)) r done
-      → Passing initial target left now (standing left ++ now)
-      × Leg size initial target l (Mov (suc (length left)) (suc (length left) + ahead target r done) ∷ []) (standing left ++ now)
+      → Passing initial target kept left now (standing left ++ now)
+      × Leg size initial target kept l (Mov (suc (length left)) (suc (length left) + ahead target r done) ∷ []) (standing left ++ now)
   unfolding ruleOf
   lower r left done now l h p is =
       let u = standing left in
@@ -231,7 +234,7 @@ module _ (size : ℕ) (initial target : List ℕ) (d : Distinct target) where
       λ z k. not-second (c .early z k)
       (precedes-total z r target (inside z (Memᴰ·append-left y k)) h
       (λ e. not-later r u (x ++ y) was (Memᴰ·append-left y (Memᴰ·cast (sym e) k)))) in
-      let then : Passing initial target left now (u ++ now) =
+      let then : Passing initial target kept left now (u ++ now) =
       rw shape (
       pass-waiting r left done (x ++ (r ∷ y)) l p
       (lowered-distinct r u x y was)
@@ -257,11 +260,12 @@ module _ (size : ℕ) (initial target : List ℕ) (d : Distinct target) where
           ap (λ (m : List ℕ). u ++ m) shape ∙ sym (append-assoc u x (r ∷ y)),
         )
             (rw (at, shape) (lowered-forward r u x y was over))
-            (omega (arith, c .counted)),
+            (omega (arith, c .counted))
+            (lifts u r (x ++ y) (ap suc (sym (standing-length left))) at (p .unkept r (List·Memᴰ·head refl))),
       )
 
   pub stage-two : (left : List Standing) (done l : List ℕ)
-      → Passing initial target left done l → Leg size initial target l (stageTwo target left done) target
+      → Passing initial target kept left done l → Leg size initial target kept l (stageTwo target left done) target
   unfolding stageTwo
   stage-two [] done l p =
       let at : l ≡ done = p .is in

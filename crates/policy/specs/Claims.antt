@@ -9,18 +9,19 @@ use mathlib.Core.List.{List, [], _∷_, _++_, List·Memᴰ, Sublistᴰ}
 use mathlib.Core.Option.{Option, none, some}
 use lib.ListN.{length, getD}
 use Rattle.policy.specs.Lists.{common}
-use Rattle.policy.specs.Policy.{Matching, decided, sameAction, most-rules, most-listed}
+use Rattle.policy.specs.Policy.{Matching, decide, decided, sameAction, most-rules, most-listed}
 use Rattle.policy.specs.Command.{ofType, faultNumber}
 use Rattle.policy.specs.Replay.{ended, replay, lists}
 use Rattle.policy.specs.AppendDelete.{keptRun, planOne}
 use Rattle.policy.specs.InsertDeleteMove.{keptTwo, planTwo, movesInPlace}
 use Rattle.policy.specs.Judge.{verdict, verdictNumbers}
+use Rattle.policy.specs.Properties.{Precedes, Untouched}
 use Rattle.policy.specs.Properties.{In, Distinct, Supported, Ordered, Full, Fails, Leads, After, StandsAt}
 use Rattle.policy.specs.declared.Command.{Command}
 use Rattle.policy.specs.declared.Command.the-variants.{Mov}
+use Rattle.policy.specs.declared.Decision.{Decision}
 use Rattle.policy.specs.declared.Fault.{Fault}
 use Rattle.policy.specs.declared.Verdict.{Verdict}
-use Rattle.policy.specs.declared.Verdict.the-variants.{Safe}
 
 -- a policy that the reader accepts: its numbers are inside the catalogue (8), and no rule is named twice (9)
 pub record Policy (size : ℕ) (l : List ℕ) : Type 0 where
@@ -38,7 +39,41 @@ pub record Accepted (size : ℕ) (initial target : List ℕ) (keep : Option (Lis
   pub last : Policy size target
   pub keepable : Keepable initial target keep
 
--- Decisions. A list that is ordered and full decides every flow as the initial policy or as the target does.
+-- "go through the target in order and keep each common rule that stands in the initial policy after the last one kept": of the
+-- target's rules, each that all those kept before it in the target stand before in the initial policy
+pub record OwnChoice (initial target chosen : List ℕ) : Type 0 where
+  pub in-order : Sublistᴰ chosen target
+  pub each : (r : ℕ) → In r target
+      → In r chosen ↔ (In r initial × ((x : ℕ) → In x chosen → Precedes x r target → Precedes x r initial))
+
+-- "Kept: the keep list .. If absent: .."
+abbrev pub ToKeep : List ℕ → List ℕ → Option (List ℕ) → List ℕ → Type 0
+ToKeep initial target none kept = OwnChoice initial target kept
+ToKeep initial target (some keep) kept = kept ≡ keep
+
+-- Decisions. "A flow is decided by the first rule that matches": the rule at the place matches, and no earlier one does ..
+pub record FirstMatch (m : Matching) (l : List ℕ) (place rule : ℕ) : Type 0 where
+  pub stands : StandsAt l place rule
+  pub matches : m .hit rule ≡ true
+  pub first : (before r : ℕ) → before < place → StandsAt l before r → m .hit r ≡ false
+
+-- .. "if none does"
+abbrev pub NoMatch : Matching → List ℕ → Type 0
+NoMatch m l = (r : ℕ) → In r l → m .hit r ≡ false
+
+-- "The answer is the action and the place of that rule, places counted from 1, or place 0 for the default."
+abbrev pub Answers : Matching → List ℕ → Decision → Type 0
+Answers m l d =
+    ((rule : ℕ) × FirstMatch m l (d .place) rule × (d .action ≡ m .action rule))
+    ⊎ (NoMatch m l × (d .place ≡ 0) × (d .action ≡ m .default))
+
+abbrev pub DecisionIsFirstMatch : Type 0
+DecisionIsFirstMatch = (m : Matching) (l : List ℕ) (d : Decision) → (decide m l ≡ d) ↔ Answers m l d
+
+abbrev pub PlaceZeroIsDefault : Type 0
+PlaceZeroIsDefault = (m : Matching) (l : List ℕ) → ((decide m l) .place ≡ 0) ↔ NoMatch m l
+
+-- A list that is ordered and full decides every flow as the initial policy or as the target does.
 abbrev pub OrderedAndFullDecidesAsOne : Type 0
 OrderedAndFullDecidesAsOne =
     (m : Matching) (initial target l : List ℕ) → Distinct l → Ordered initial target l → Full initial target l
@@ -56,11 +91,28 @@ abbrev pub ReplayIsLeads : Type 0
 ReplayIsLeads =
     (size : ℕ) (initial l : List ℕ) (script : List Command) → (replay size initial script ≡ ended l) ↔ Leads size initial script l
 
--- .. and the lists on the way are, in order, those after 0, 1, 2 .. commands.
+-- .. and the lists on the way are, in order, those after 0, 1, 2 .. commands: there is no other, and none is left out ..
 abbrev pub ListsAreAfter : Type 0
 ListsAreAfter =
     (size : ℕ) (initial : List ℕ) (script : List Command) (k : ℕ) (l : List ℕ)
     → After size initial script k l → (k < length (lists size initial script)) × (getD (lists size initial script) k [] ≡ l)
+
+abbrev pub EachListIsAfter : Type 0
+EachListIsAfter =
+    (size : ℕ) (initial : List ℕ) (script : List Command) (k : ℕ)
+    → k < length (lists size initial script) → After size initial script k (getD (lists size initial script) k [])
+
+-- the first so many commands pass, and no more: there is a list after them, and none after the next one
+pub record Passes (size : ℕ) (initial : List ℕ) (script : List Command) (commands : ℕ) : Type 0 where
+  pub last : List ℕ
+  pub after : After size initial script commands last
+  pub no-more : (l : List ℕ) → ¬ After size initial script (suc commands) l
+
+-- .. "the initial one (step 0) and the one after each command": one list more than commands that pass.
+abbrev pub ListsAreOneMore : Type 0
+ListsAreOneMore =
+    (size : ℕ) (initial : List ℕ) (script : List Command) (commands : ℕ)
+    → Passes size initial script commands ↔ (length (lists size initial script) ≡ suc commands)
 
 -- Numbers. Verdicts and faults are promised by document 01's numbers and their values, and no two answers share them: what is said of the
 -- numbers is said of the answer.
@@ -174,6 +226,12 @@ PlanOneCount =
     (initial target : List ℕ) → Distinct initial
     → length (planOne initial target) + 2 * length (keptRun initial target) ≡ length initial + length target
 
+-- No command deletes or appends a rule that is kept.
+abbrev pub PlanOneSparesKept : Type 0
+PlanOneSparesKept =
+    (size : ℕ) (initial target : List ℕ) → Policy size initial → Policy size target
+    → Untouched size initial (planOne initial target) (keptRun initial target)
+
 -- "no type 1 sequence in which every command succeeds and whose last list is the target is shorter"
 abbrev pub PlanOneFewest : Type 0
 PlanOneFewest =
@@ -207,6 +265,18 @@ PlanTwoCount =
     + (movesInPlace initial target keep + (length (common initial target) + length (keptTwo initial target keep)))
     ≡ length initial + length target
 
+-- What it keeps is the keep list, or its own choice where there is none ..
+abbrev pub KeptAsAsked : Type 0
+KeptAsAsked =
+    (size : ℕ) (initial target : List ℕ) (keep : Option (List ℕ)) → Accepted size initial target keep
+    → ToKeep initial target keep (keptTwo initial target keep)
+
+-- .. and no command inserts, deletes or moves a rule of that.
+abbrev pub PlanTwoSparesKept : Type 0
+PlanTwoSparesKept =
+    (size : ℕ) (initial target : List ℕ) (keep : Option (List ℕ)) → Accepted size initial target keep
+    → (kept : List ℕ) → ToKeep initial target keep kept → Untouched size initial (planTwo initial target keep) kept
+
 -- It never sends a move that changes nothing.
 abbrev pub PlanTwoMoves : Type 0
 PlanTwoMoves =
@@ -239,11 +309,13 @@ PlanTwoChangesOnce =
     → ChangesOnce m size initial target (planTwo initial target keep)
     (changePoint m target (lists size initial (planTwo initial target keep)))
 
--- "I = T: no command of either type", "verdict 32"
+-- "I = T: no command of either type", whatever the keep list; "verdict 32"
 abbrev pub NothingToDo : Type 0
 NothingToDo =
-    (size : ℕ) (initial : List ℕ) → Distinct initial
-    → (planOne initial initial ≡ []) × (planTwo initial initial none ≡ []) × (verdict size initial initial [] ≡ Safe)
+    (size : ℕ) (initial : List ℕ) (keep : Option (List ℕ)) → Distinct initial
+    → (planOne initial initial ≡ [])
+    × (planTwo initial initial keep ≡ [])
+    × (verdictNumbers (verdict size initial initial []) ≡ 32 ∷ [])
 
 -- Numbers. "A running list never exceeds 1,024, since its rules differ."
 abbrev pub RunningListFits : Type 0

@@ -10,4 +10,5 @@ pub mod Judge
 pub mod Cases
 pub mod Properties
 pub mod Claims
+pub mod Scanning
 pub mod Traps

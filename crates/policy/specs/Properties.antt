@@ -115,3 +115,18 @@ pub record StandsAt (l : List ℕ) (place r : ℕ) : Type 0 where
   pub right : List ℕ
   pub is : l ≡ left ++ (r ∷ right)
   pub counted : place ≡ suc (length left)
+
+-- the rule that a command appends, deletes, inserts or lifts out of the list that it meets
+abbrev pub Touches : List ℕ → Command → ℕ → Type 0
+Touches l (App r) x = x ≡ r
+Touches l (DelRule r) x = x ≡ r
+Touches l (Ins i r) x = x ≡ r
+Touches l (DelPlace i) x = StandsAt l i x
+Touches l (Mov i j) x = StandsAt l i x
+
+-- no command of the script touches a rule of the list: wherever the script is cut before a command, it leads to the list that the
+-- command meets
+abbrev pub Untouched : ℕ → List ℕ → List Command → List ℕ → Type 0
+Untouched size initial script kept =
+    (first others : List Command) (c : Command) (l : List ℕ) (r : ℕ)
+    → script ≡ first ++ (c ∷ others) → Leads size initial first l → Touches l c r → ¬ In r kept
