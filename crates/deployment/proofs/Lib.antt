@@ -10,4 +10,5 @@ pub mod LongFiles
 pub mod RefusedValues
 pub mod FieldValues
 pub mod Storing
+pub mod Flows
 pub mod Answers
