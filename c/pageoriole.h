@@ -45,11 +45,9 @@ extern "C" {
 
 /* ---- Numbers that are returned ---- */
 
-/* One row a number: its name, the number, how many values belong to it, its sentence. DONE has the values that its function names.
- * 1 to 13 turn a call away; the value is the position, of 13 the bytes needed. 20 to 23: a command fails; the value is its step, counted
- * from 1. 24 to 32 are verdicts on a script that runs through: the value of 24 is its number of commands, those of 30 are step and place. */
-#define PAGEORIOLE_NUMBERS(ROW)                                                                                                                \
-    ROW(PAGEORIOLE_DONE, 0, 0, "done")                                                                                                         \
+/* One row a number: its name, the number, how many values belong to it, its sentence.
+ * A call is turned away; the value is the position, of 13 the bytes needed. */
+#define PAGEORIOLE_REFUSALS(ROW)                                                                                                               \
     ROW(PAGEORIOLE_CUT, 1, 1, "the file is cut off inside a field")                                                                            \
     ROW(PAGEORIOLE_TAG, 2, 1, "a field stands where it can't stand")                                                                           \
     ROW(PAGEORIOLE_NO_TARGET, 3, 1, "the file ends before its target policy")                                                                  \
@@ -62,22 +60,36 @@ extern "C" {
     ROW(PAGEORIOLE_KEEP, 10, 1, "the keep list doesn't occur in order in both policies")                                                       \
     ROW(PAGEORIOLE_CODING, 11, 1, "a script's type, a code or an unused number is wrong")                                                      \
     ROW(PAGEORIOLE_NO_SCRIPT, 12, 1, "there is no script in the file")                                                                         \
-    ROW(PAGEORIOLE_ROOM, 13, 1, "the lent place is too small")                                                                                 \
+    ROW(PAGEORIOLE_ROOM, 13, 1, "the lent place is too small")
+
+/* A command fails; the value is its step, counted from 1. */
+#define PAGEORIOLE_FAULTS(ROW)                                                                                                                 \
     ROW(PAGEORIOLE_PRESENT, 20, 1, "a command adds a rule that is there already")                                                              \
     ROW(PAGEORIOLE_ABSENT, 21, 1, "a command takes out a rule that isn't there")                                                               \
     ROW(PAGEORIOLE_PLACE, 22, 1, "a command names a place that the list doesn't have")                                                         \
-    ROW(PAGEORIOLE_NUMBER, 23, 1, "a command names a rule that isn't in the catalogue")                                                        \
+    ROW(PAGEORIOLE_NUMBER, 23, 1, "a command names a rule that isn't in the catalogue")
+
+/* Verdicts on a script that runs through; the value of 24 is its number of commands, those of 30 are step and place. */
+#define PAGEORIOLE_VERDICTS(ROW)                                                                                                               \
     ROW(PAGEORIOLE_ELSEWHERE, 24, 1, "all commands pass, but the last list isn't the target")                                                  \
     ROW(PAGEORIOLE_UNORDERED, 30, 2, "a list on the way isn't ordered, so safety isn't shown")                                                 \
-    ROW(PAGEORIOLE_NOT_FULL, 31, 0,                                                                                                            \
-        "no flow that both policies deny is ever permitted, but a permitted flow may be cut off for a while")                                  \
+    ROW(PAGEORIOLE_NOT_FULL, 31, 0, "no flow that both policies deny is ever permitted, but a permitted flow may be cut off for a while")      \
     ROW(PAGEORIOLE_SAFE, 32, 0, "safe: at every step each flow is decided as one of the two policies decides it")
+
+/* All of them. DONE has the values that its function names. */
+#define PAGEORIOLE_NUMBERS(ROW)                                                                                                                \
+    ROW(PAGEORIOLE_DONE, 0, 0, "done")                                                                                                         \
+    PAGEORIOLE_REFUSALS(ROW)                                                                                                                   \
+    PAGEORIOLE_FAULTS(ROW)                                                                                                                     \
+    PAGEORIOLE_VERDICTS(ROW)
 
 #define PAGEORIOLE_NAMED(name, number, values, sentence) name = number,
 #define PAGEORIOLE_SAID(name, number, values, sentence)                                                                                        \
     case name: return sentence;
 #define PAGEORIOLE_VALUED(name, number, values, sentence)                                                                                      \
     case name: return values;
+#define PAGEORIOLE_AMONG(name, number, values, sentence)                                                                                       \
+    case name: return true;
 
 enum pageoriole_number { PAGEORIOLE_NUMBERS(PAGEORIOLE_NAMED) };
 
@@ -97,12 +109,18 @@ static inline size_t pageoriole_values_of(uint32_t number) {
     }
 }
 
+/* Whether a call was turned away: whether the number is a refusal. */
+static inline bool pageoriole_turned_away(uint32_t number) {
+    switch (number) {
+        PAGEORIOLE_REFUSALS(PAGEORIOLE_AMONG)
+    default: return false;
+    }
+}
+
 #undef PAGEORIOLE_NAMED
 #undef PAGEORIOLE_SAID
 #undef PAGEORIOLE_VALUED
-
-/* Whether a call was turned away, by 1 to 13. */
-static inline bool pageoriole_turned_away(uint32_t number) { return PAGEORIOLE_CUT <= number && number <= PAGEORIOLE_ROOM; }
+#undef PAGEORIOLE_AMONG
 
 /* ---- Words of `answer` ---- */
 
