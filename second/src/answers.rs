@@ -24,21 +24,24 @@ pub const LENT_WORD: u64 = 0xa5a5_a5a5_a5a5_a5a5;
 const WORDS: usize = 11;
 
 /// Rooms lent to the entries that write: of a file its plans, its replay and
-/// its texts; of field values the replay.
+/// its texts; of field values the replay; of both the decisions of flows.
 #[derive(Clone, Copy, Debug, Default)]
 pub struct Rooms {
     pub plans: [usize; 2],
     pub replay: usize,
     pub texts: [usize; 2],
     pub replay_values: usize,
+    pub flows: usize,
 }
 
-/// A file; field values with rooms of their own; more rooms; and flows.
+/// A file; field values with rooms of their own; more rooms; and flows, each
+/// for itself and all of them as bytes, of which some may be missing.
 pub struct Input {
     pub file: Vec<u8>,
     pub made: MadeValues,
     pub rooms: Rooms,
     pub flows: Vec<Flow>,
+    pub flow_bytes: Vec<u8>,
 }
 
 impl Input {
@@ -49,8 +52,9 @@ impl Input {
             0 => inputs::flow(seed, number),
             _ => inputs::flow_near(&rules, seed, number),
         });
-        let flows = flows.collect();
-        let mut input = Input { file: inputs::make(seed, index), made, rooms: Rooms::default(), flows };
+        let flows: Vec<Flow> = flows.collect();
+        let flow_bytes = inputs::flow_bytes(&flows, seed, index);
+        let mut input = Input { file: inputs::make(seed, index), made, rooms: Rooms::default(), flows, flow_bytes };
         input.rooms = second::rooms(&input, &mut inputs::rooms(seed, index));
         input
     }

@@ -8,7 +8,7 @@ use crate::file::{self, numbers};
 use crate::judge::judge_values;
 use crate::library;
 use crate::plan::plan_values;
-use crate::policy::{decide, Flow};
+use crate::policy::{decide_flows_values, Flow, DECISION_BYTES};
 use made::{Made, Policies};
 use std::hint::black_box;
 use std::time::{Duration, Instant};
@@ -99,23 +99,20 @@ impl Bench<'_> {
         );
     }
 
+    /// One call tests the values and decides all flows.
     fn deciding(&self, rules: usize, flows: &[Flow]) {
         let (bytes, policy) = (made::plain_catalogue(rules), Made::new(rules, Policies::Equal).initial);
-        let catalogue: Vec<&[u8]> = bytes.chunks_exact(file::RULE_BYTES).collect();
-        let mut words = [0; 2];
-        let ours = |flow: &Flow, words: &mut [u64; 2]| {
-            library::decide_accepted(&bytes, &policy, flow, words);
-            words[1]
-        };
-        let second = |flow: &Flow| decide(&catalogue, &policy, flow).place as u64;
-        for flow in flows.iter().take(1000) {
-            same(ours(flow, &mut words), second(flow));
-        }
+        let flows: Vec<u8> = flows.iter().flat_map(Flow::bytes).collect();
+        let needed = DECISION_BYTES * FLOWS;
+        let (mut place, mut other_place, mut words) = (vec![0; needed], vec![0; needed], [0; 1]);
+        same(library::decide_flows(&bytes, &policy, &flows, &mut place, &mut words), 0);
+        same(decide_flows_values(&bytes, &policy, &flows, &mut other_place), Ok(words[0] as usize));
+        assert!(place == other_place, "the two answer differently");
         self.line(
             format!("decide {FLOWS} flows by {rules} rules"),
             LONG_REPETITIONS,
-            || flows.iter().map(|flow| ours(flow, &mut words)).sum::<u64>(),
-            || flows.iter().map(second).sum::<u64>(),
+            || library::decide_flows(&bytes, &policy, black_box(&flows), &mut place, &mut words),
+            || decide_flows_values(&bytes, &policy, black_box(&flows), &mut other_place),
         );
     }
 
@@ -175,6 +172,6 @@ impl Bench<'_> {
             self.judging("the type 1 plan of disjoint", &Made::disjoint_plan(rules));
         }
         println!("read: a file with equal policies of half the rules, a keep list of all of them, and a script of two commands a rule;");
-        println!("decide: over accepted values; plan and judge: over field values, with their tests, over a catalogue of twice the rules.");
+        println!("decide: one call over field values, with their tests; plan and judge: likewise, over a catalogue of twice the rules.");
     }
 }

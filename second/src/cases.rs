@@ -5,7 +5,7 @@
 //! about a file (0) or field values (1), whether there is a keep list, whether
 //! there is a script; two bytes for the room lent for output; the flow; then its
 //! parts, themselves a row: the file; or the rules, both policies, the keep list
-//! and the script.
+//! and the script; and last flows, as the entries take many at once.
 
 mod expected;
 mod faults;
@@ -77,6 +77,15 @@ struct Case {
     over: Over,
     room: usize,
     flow: Flow,
+    flows: Vec<u8>,
+}
+
+/// A flow and its way back; and the same with the ports left where they were.
+fn flows_about(flow: &Flow) -> Vec<u8> {
+    let Flow { source, source_port, destination, destination_port, .. } = *flow;
+    let turned = Flow { source: destination, destination: source, ..*flow };
+    let back = Flow { source_port: destination_port, destination_port: source_port, ..turned };
+    [*flow, back, turned].iter().flat_map(Flow::bytes).collect()
 }
 
 fn add_part(row: &mut Vec<u8>, part: &[u8]) {
@@ -84,19 +93,15 @@ fn add_part(row: &mut Vec<u8>, part: &[u8]) {
     row.extend_from_slice(part);
 }
 
-fn flow_bytes(flow: &Flow) -> Vec<u8> {
-    let Flow { protocol, source, source_port, destination, destination_port } = *flow;
-    let mut bytes = vec![protocol];
-    bytes.extend(source.to_be_bytes());
-    bytes.extend(source_port.to_be_bytes());
-    bytes.extend(destination.to_be_bytes());
-    bytes.extend(destination_port.to_be_bytes());
-    bytes
-}
-
 impl Case {
+    /// With the given flow for the entries that take one, and three like it for those that take many.
+    fn new(over: Over, room: usize, flow: Flow) -> Case {
+        let flows = flows_about(&flow);
+        Case { over, room, flow, flows }
+    }
+
     fn bytes(&self) -> Vec<u8> {
-        let (flags, parts) = match &self.over {
+        let (flags, mut parts) = match &self.over {
             Over::File(file) => ([0, 0, 0], vec![file.as_slice()]),
             Over::Lists(given) => (
                 [1, u8::from(given.keep.is_some()), u8::from(given.script.is_some())],
@@ -105,7 +110,8 @@ impl Case {
         };
         let mut bytes = flags.to_vec();
         bytes.extend(u16::try_from(self.room).expect("a room of two bytes").to_be_bytes());
-        bytes.extend(flow_bytes(&self.flow));
+        bytes.extend(self.flow.bytes());
+        parts.push(&self.flows);
         for part in parts {
             add_part(&mut bytes, part);
         }
@@ -171,10 +177,10 @@ mod tests {
             wanted.extend(refused(entry, &of_file));
             wanted.extend(refused(entry, &[12]));
         }
-        for entry in ["initial", "target", "plan 1", "plan 2"] {
+        for entry in ["initial", "target", "flows by initial", "flows by target", "plan 1", "plan 2"] {
             wanted.extend(refused(entry, &of_file));
         }
-        for entry in ["replay", "plan 1", "plan 2"] {
+        for entry in ["replay", "flows by initial", "flows by target", "plan 1", "plan 2"] {
             wanted.extend(refused(entry, &[13]));
         }
         wanted.extend([4, 5, 6, 7, 8, 9, 10, 11].map(|number| format!("check {number}")));
@@ -184,6 +190,7 @@ mod tests {
             ["check good", "initial permit", "initial deny 0", "target permit", "target deny 0"].map(String::from),
         );
         wanted.extend(["replay ended", "plan 1 kept", "plan 2 kept"].map(String::from));
+        wanted.extend(["flows by initial bytes", "flows by target bytes"].map(String::from));
         for words in wanted {
             assert!(lines_with(&text, &words) > 0, "no line {words}");
         }

@@ -77,10 +77,11 @@ fn text_kind(text: &str) -> String {
 /// its number, a decision by its action and place, or that the work is done.
 fn answer_kind(answer: &Answer) -> String {
     let judge = answer.entry.starts_with("judge");
+    let one_flow = matches!(answer.entry, "decide file" | "decide values");
     match (answer.number, answer.words) {
-        (0, [1, ..]) if answer.entry.starts_with("decide") => "permit by a rule".to_string(),
-        (0, [0, 0, ..]) if answer.entry.starts_with("decide") => "deny by default".to_string(),
-        (0, _) if answer.entry.starts_with("decide") => "deny by a rule".to_string(),
+        (0, [1, ..]) if one_flow => "permit by a rule".to_string(),
+        (0, [0, 0, ..]) if one_flow => "deny by default".to_string(),
+        (0, _) if one_flow => "deny by a rule".to_string(),
         (0, _) => "done".to_string(),
         (number @ 1..=13, _) => format!("refused {number:>2}"),
         (number, _) if judge => format!("verdict {number:>2}"),
@@ -123,7 +124,8 @@ fn print_difference(index: u64, input: &Input, difference: &Difference) {
     println!("rules {}\ninitial {}\ntarget {}", hex(&made.rules), hex(&made.initial), hex(&made.target));
     println!("keep {:?}\nscript {:?}", made.keep.as_deref().map(hex), made.script.as_deref().map(hex));
     println!("room {} for a script, {} for a file, {:?}", made.plan_room, made.file_room, input.rooms);
-    println!("flows {:?}\nsecond {}\nother {}", input.flows, difference.0, difference.1);
+    println!("flows {:?}\nas bytes {}", input.flows, hex(&input.flow_bytes));
+    println!("second {}\nother {}", difference.0, difference.1);
 }
 
 /// Compares so many inputs; false at the first difference.

@@ -19,6 +19,7 @@ pub use values::MadeValues;
 const FLOWS: u64 = 0x666c_6f77;
 const VALUES: u64 = 0x7661_6c75;
 const ROOMS: u64 = 0x726f_6f6d;
+const CUTS: u64 = 0x6375_7473;
 
 /// The input with this index.
 pub fn make(seed: u64, index: u64) -> Vec<u8> {
@@ -99,6 +100,16 @@ impl RoomMaker {
 /// The maker of rooms with this index.
 pub fn rooms(seed: u64, index: u64) -> RoomMaker {
     RoomMaker(Random::new(seed ^ ROOMS, index))
+}
+
+/// Flows as bytes, sometimes cut so that the last isn't whole.
+pub fn flow_bytes(flows: &[Flow], seed: u64, index: u64) -> Vec<u8> {
+    let random = &mut Random::new(seed ^ CUTS, index);
+    let mut bytes: Vec<u8> = flows.iter().flat_map(Flow::bytes).collect();
+    if random.one_in(8) {
+        bytes.truncate(random.below(bytes.len()));
+    }
+    bytes
 }
 
 /// So many different rules of 27 bytes.

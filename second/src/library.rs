@@ -16,9 +16,6 @@ type Plans = unsafe extern "C" fn(
 ) -> u32;
 
 #[rustfmt::skip]
-type Decides = unsafe extern "C" fn(Bytes, usize, Bytes, usize, u8, u32, u16, u32, u16, Words, usize) -> u32;
-
-#[rustfmt::skip]
 extern "C" {
     fn pageoriole_read(file: Bytes, size: usize, answer: Words, words: usize) -> u32;
     fn pageoriole_read_to_judge(file: Bytes, size: usize, answer: Words, words: usize) -> u32;
@@ -36,9 +33,13 @@ extern "C" {
         rules: Bytes, rules_size: usize, policy: Bytes, policy_size: usize, protocol: u8, source: u32,
         source_port: u16, destination: u32, destination_port: u16, answer: Words, words: usize,
     ) -> u32;
-    fn pageoriole_decide_accepted(
-        rules: Bytes, rules_size: usize, policy: Bytes, policy_size: usize, protocol: u8, source: u32,
-        source_port: u16, destination: u32, destination_port: u16, answer: Words, words: usize,
+    fn pageoriole_decide_flows(
+        rules: Bytes, rules_size: usize, policy: Bytes, policy_size: usize, flows: Bytes, flows_size: usize,
+        place: Place, room: usize, answer: Words, words: usize,
+    ) -> u32;
+    fn pageoriole_decide_flows_file(
+        file: Bytes, size: usize, of_target: bool, flows: Bytes, flows_size: usize, place: Place, room: usize,
+        answer: Words, words: usize,
     ) -> u32;
     fn pageoriole_check(
         rules: Bytes, rules_size: usize, initial: Bytes, initial_size: usize, target: Bytes, target_size: usize,
@@ -123,24 +124,36 @@ pub fn decide_file(file: &[u8], of_target: bool, flow: &Flow, answer: &mut [u64]
     }
 }
 
+#[rustfmt::skip]
+pub fn decide_flows_file(file: &[u8], of_target: bool, flows: &[u8], place: &mut [u8], answer: &mut [u64]) -> u32 {
+    unsafe {
+        pageoriole_decide_flows_file(
+            file.as_ptr(), file.len(), of_target, flows.as_ptr(), flows.len(), place.as_mut_ptr(), place.len(),
+            answer.as_mut_ptr(), answer.len(),
+        )
+    }
+}
+
 // ---- Over field values ----
 
 #[rustfmt::skip]
-fn deciding(entry: Decides, rules: &[u8], policy: &[u8], flow: &Flow, answer: &mut [u64]) -> u32 {
+pub fn decide(rules: &[u8], policy: &[u8], flow: &Flow, answer: &mut [u64]) -> u32 {
     unsafe {
-        entry(
+        pageoriole_decide(
             rules.as_ptr(), rules.len(), policy.as_ptr(), policy.len(), flow.protocol, flow.source, flow.source_port,
             flow.destination, flow.destination_port, answer.as_mut_ptr(), answer.len(),
         )
     }
 }
 
-pub fn decide(rules: &[u8], policy: &[u8], flow: &Flow, answer: &mut [u64]) -> u32 {
-    deciding(pageoriole_decide, rules, policy, flow, answer)
-}
-
-pub fn decide_accepted(rules: &[u8], policy: &[u8], flow: &Flow, answer: &mut [u64]) -> u32 {
-    deciding(pageoriole_decide_accepted, rules, policy, flow, answer)
+#[rustfmt::skip]
+pub fn decide_flows(rules: &[u8], policy: &[u8], flows: &[u8], place: &mut [u8], answer: &mut [u64]) -> u32 {
+    unsafe {
+        pageoriole_decide_flows(
+            rules.as_ptr(), rules.len(), policy.as_ptr(), policy.len(), flows.as_ptr(), flows.len(),
+            place.as_mut_ptr(), place.len(), answer.as_mut_ptr(), answer.len(),
+        )
+    }
 }
 
 #[rustfmt::skip]

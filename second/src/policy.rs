@@ -12,6 +12,36 @@ pub struct Flow {
     pub destination_port: u16,
 }
 
+/// The bytes of a flow, and of the answer for one, where many are asked about at once.
+pub const FLOW_BYTES: usize = 13;
+pub const DECISION_BYTES: usize = 3;
+
+impl Flow {
+    /// The five numbers one after another, big-endian.
+    pub fn bytes(&self) -> [u8; FLOW_BYTES] {
+        let mut bytes = [0; FLOW_BYTES];
+        bytes[0] = self.protocol;
+        bytes[1..5].copy_from_slice(&self.source.to_be_bytes());
+        bytes[5..7].copy_from_slice(&self.source_port.to_be_bytes());
+        bytes[7..11].copy_from_slice(&self.destination.to_be_bytes());
+        bytes[11..].copy_from_slice(&self.destination_port.to_be_bytes());
+        bytes
+    }
+
+    fn of_bytes(bytes: &[u8]) -> Flow {
+        let bytes: &[u8; FLOW_BYTES] = bytes.try_into().expect("the bytes of a flow");
+        let two = |at: usize| u16::from_be_bytes([bytes[at], bytes[at + 1]]);
+        let four = |at: usize| u32::from_be_bytes([bytes[at], bytes[at + 1], bytes[at + 2], bytes[at + 3]]);
+        Flow {
+            protocol: bytes[0],
+            source: four(1),
+            source_port: two(5),
+            destination: four(7),
+            destination_port: two(11),
+        }
+    }
+}
+
 /// The answer for a flow: permit or deny, and the deciding place (0: default).
 #[derive(Clone, Copy, Debug, PartialEq, Eq)]
 pub struct Decision {
@@ -90,6 +120,36 @@ pub fn decide_values(rules: &[u8], policy: &[u8], flow: &Flow) -> Result<Decisio
     Ok(decide(&rules, policy, flow))
 }
 
+/// Decides flows of 13 bytes by a policy's value over the rules of accepted
+/// contents: for each, action and two-byte place in the first bytes of `place`.
+pub fn decide_flows(rules: &[&[u8]], policy: &[u8], flows: &[u8], place: &mut [u8]) -> Result<usize, Refusal> {
+    if flows.len() % FLOW_BYTES != 0 {
+        return Err(Refusal { number: 4, position: 0 });
+    }
+    let needed = DECISION_BYTES * (flows.len() / FLOW_BYTES);
+    let room = place.get_mut(..needed).ok_or(Refusal { number: 13, position: needed })?;
+    for (flow, answer) in flows.chunks_exact(FLOW_BYTES).zip(room.chunks_exact_mut(DECISION_BYTES)) {
+        let Decision { permit, place } = decide(rules, policy, &Flow::of_bytes(flow));
+        answer[0] = u8::from(permit);
+        answer[1..].copy_from_slice(&(place as u16).to_be_bytes());
+    }
+    Ok(needed)
+}
+
+/// The same over field values, tested first.
+pub fn decide_flows_values(rules: &[u8], policy: &[u8], flows: &[u8], place: &mut [u8]) -> Result<usize, Refusal> {
+    let rules = file::check_rules(rules)?;
+    file::check_policy(policy, rules.len())?;
+    decide_flows(&rules, policy, flows, place)
+}
+
+/// The same over a file, by its target policy or by its initial one.
+pub fn decide_flows_file(file: &[u8], of_target: bool, flows: &[u8], place: &mut [u8]) -> Result<usize, Refusal> {
+    let contents = file::read(file)?;
+    let policy = if of_target { contents.target } else { contents.initial };
+    decide_flows(&contents.rules, policy, flows, place)
+}
+
 #[cfg(test)]
 mod tests {
     use super::*;
@@ -127,5 +187,30 @@ mod tests {
         let rules = [permit.as_slice(), deny.as_slice()];
         assert_eq!(decide(&rules, &[0, 1, 0, 0], &GRE), Decision { permit: false, place: 1 });
         assert_eq!(decide(&rules, &[0, 0, 0, 1], &GRE), Decision { permit: true, place: 1 });
+    }
+
+    #[test]
+    fn flows_are_decided_one_by_one() {
+        let rule = permit_port_zero();
+        let other = Flow { source_port: 0x0102, destination_port: 0x0304, ..GRE };
+        let flows = [GRE.bytes(), other.bytes()].concat();
+        assert_eq!(flows[13..], [47, 0, 0, 0, 1, 1, 2, 0, 0, 0, 2, 3, 4]);
+        let mut place = [7; 8];
+        assert_eq!(decide_flows_values(&rule, &[0, 0], &flows, &mut place), Ok(6));
+        assert_eq!(place, [1, 0, 1, 0, 0, 0, 7, 7]);
+    }
+
+    #[test]
+    fn flows_are_refused_after_the_values_and_before_the_room() {
+        let rule = permit_port_zero();
+        let mut place = [7; 2];
+        let mut number = |policy: &[u8], size: usize| {
+            let refusal = decide_flows_values(&rule, policy, &vec![0; size], &mut place).unwrap_err();
+            (refusal.number, refusal.position)
+        };
+        assert_eq!(number(&[0, 1], 14), (8, 0));
+        assert_eq!(number(&[0, 0], 14), (4, 0));
+        assert_eq!(number(&[0, 0], 26), (13, 6));
+        assert_eq!(place, [7; 2]);
     }
 }

@@ -7,6 +7,7 @@ ghost use Rattle.policy.specs.Rule.{hits, says, matches, lies};
 ghost use Rattle.policy.specs.Policy.{decide, matching};
 ghost use Rattle.deployment.specs.Values.{numbersOf, ruleOf, rangeAt};
 ghost use Rattle.deployment.specs.Catalogue.{catalogueOf};
+use deployment::RULE_BYTES;
 use deployment::four;
 use deployment::listed;
 use deployment::number_at;
@@ -14,9 +15,6 @@ use deployment::two;
 use policy::Action;
 use policy::Decision;
 use policy::Flow;
-
-// "a rule, 27 bytes"
-pub const RULE_BYTES: usize = 27;
 
 // Whether a number lies in the one-byte range that starts at byte `at` of a rule; and so for two and four bytes.
 fn lies_one(rule: &[u8], at: usize, n: u8) -> bool
@@ -62,7 +60,7 @@ fn record_matches(rule: &[u8], flow: Flow) -> bool
 }
 
 // Whether rule `n` of the catalogue matches the flow; `skip` bytes stand before each record. A number outside the catalogue matches nothing.
-pub fn hit(rules: &[u8], skip: u8, n: usize, flow: Flow) -> bool
+fn hit(rules: &[u8], skip: u8, n: usize, flow: Flow) -> bool
     ensures { λ r. ⌜ r ≡ hits (catalogueOf skip (now (rules .entry))) flow n ⌝ }
 {
     let step = skip as usize + RULE_BYTES;
@@ -74,7 +72,7 @@ pub fn hit(rules: &[u8], skip: u8, n: usize, flow: Flow) -> bool
 }
 
 // What rule `n` of the catalogue says; a number outside it permits nothing.
-pub fn action(rules: &[u8], skip: u8, n: usize) -> Action
+fn action(rules: &[u8], skip: u8, n: usize) -> Action
     ensures { λ r. ⌜ r ≡ says (catalogueOf skip (now (rules .entry))) n ⌝ }
 {
     let step = skip as usize + RULE_BYTES;

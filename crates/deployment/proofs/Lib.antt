@@ -8,4 +8,5 @@ pub mod Reader
 pub mod LongFiles
 pub mod FieldValues
 pub mod Storing
+pub mod Flows
 pub mod Answers

@@ -1,16 +1,18 @@
 -- What a customer buys of the file: demand 1's refusals and demand 2's round trip, about the definitions. Each claim is a statement;
 -- proofs/ has, for each, a proof of the same name in small letters with hyphens. Assumes nothing.
-use Prim.Native.Nat.{ℕ, _≤_}
+use Prim.Native.Nat.{ℕ, _≤_, _<_}
 use mathlib.Core.Path.{_≡_}
 use mathlib.Core.Logic.{_↔_}
 use mathlib.Core.List.{List, map}
 use mathlib.Core.Option.{Option, none, some}
 use lib.ListN.{length, take}
+use Rattle.policy.specs.declared.Decision.{Decision}
 use Rattle.deployment.specs.Bytes.{joined}
 use Rattle.deployment.specs.Values.{Script, ruleBytes, numbersBytes, scriptBytes}
 use Rattle.deployment.specs.Contents.{Contents}
 use Rattle.deployment.specs.File.{accepted, refused, readFile, readToJudge, fileOf}
 use Rattle.deployment.specs.FieldValues.{FieldValues, readValues}
+use Rattle.deployment.specs.Flows.{decisionOf, decisionBytes}
 use Rattle.deployment.specs.Properties.{AreBytes, IfThere, Valid, TurnedAway}
 use Rattle.deployment.specs.declared.Why.{Why}
 use Rattle.deployment.specs.declared.Why.the-variants.{NoScript}
@@ -74,3 +76,7 @@ LongFile = (file : List ℕ) → AreBytes file → readFile file ≡ readFile (t
 
 abbrev pub LongFileToJudge : Type 0
 LongFileToJudge = (file : List ℕ) → AreBytes file → readToJudge file ≡ readToJudge (take deciding file)
+
+-- A decision reads back from its three bytes: a place has two, more than a policy can need.
+abbrev pub DecisionReadsBack : Type 0
+DecisionReadsBack = (d : Decision) → d .place < 65536 → decisionOf (decisionBytes d) ≡ d

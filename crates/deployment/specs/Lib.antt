@@ -7,5 +7,6 @@ pub mod Commands
 pub mod Catalogue
 pub mod File
 pub mod FieldValues
+pub mod Flows
 pub mod Properties
 pub mod Claims

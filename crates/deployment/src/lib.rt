@@ -11,6 +11,9 @@ ghost use Rattle.deployment.specs.Commands.{commandCount, commandAt, dec
 ghost use Rattle.policy.specs.Command.{coded};
 use policy::Command;
 
+// "a rule, 27 bytes"
+pub const RULE_BYTES: usize = 27;
+
 // Numbers 1 to 13 of "Turned away".
 pub enum Why {
     Cut,

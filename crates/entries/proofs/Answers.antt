@@ -1,8 +1,8 @@
--- Any two answers that a contract allows are equal, with every byte of the place that was lent; and a replay that gives no list keeps that
--- place as it was. Each follows from the contract as the checker
--- reads it, so a weaker contract breaks it. Assumes nothing.
+-- Any two answers that a contract allows are equal, with every byte of the place that was lent; a replay that gives no list keeps that
+-- place as it was; and flows decided at once are decided as one by one. Each follows from the contract as the checker reads it, so a
+-- weaker contract breaks it. Assumes nothing.
 use mathlib.Core.Path.{_≡_, refl, sym, _∙_, ap}
-use Prim.Native.Nat.{ℕ}
+use Prim.Native.Nat.{ℕ, _<_}
 use mathlib.Core.List.{List}
 use lib.Dec.{leb}
 use lib.ListN.{length}
@@ -11,9 +11,18 @@ use Rattle.policy.specs.Replay.{Replayed, ended, broken}
 use Rattle.policy.proofs.Tests.{byTest}
 use Rattle.deployment.specs.Checked.{Checked, good, bad}
 use Rattle.deployment.specs.Values.{numbersBytes}
-use Rattle.deployment.specs.File.{Reading, accepted, refused, readToJudge}
-use Rattle.deployment.specs.FieldValues.{unwritten, writing}
+use Rattle.deployment.specs.File.{Reading, accepted, refused, readFile, readToJudge}
+use Rattle.deployment.specs.FieldValues.{Writing, unwritten, writing}
+use Rattle.deployment.specs.FieldValues.{leftBy as written-by}
+use Rattle.deployment.specs.Properties.{AreBytes}
+use Rattle.deployment.specs.declared.Refusal.{Refusal}
+use Rattle.deployment.specs.declared.Written.{Written}
+use Rattle.deployment.specs.declared.Written.the-variants.{Bytes, Turned}
+use Rattle.entries.specs.Claims.{flow-count, flowAt, decisionAt}
 use Rattle.entries.specs.Answers.{
+  decidedReading,
+  decidedValues,
+  decidedAtZero,
   Left,
   leftBy,
   ranTo,
@@ -25,11 +34,15 @@ use Rattle.entries.specs.Answers.{
   replayedAtZero,
 }
 use Rattle.entries.specs.declared.Decided.{Decided}
+use Rattle.entries.specs.declared.Decided.the-variants as decided
 use Rattle.entries.specs.declared.Ran.{Ran}
 use Rattle.entries.specs.declared.Ran.the-variants as ran
 use Rattle.entries.proofs.files.decide.Reads as decide-file
+use Rattle.entries.proofs.Claims.{file-flows-decided, values-flows-decided, file-flows-keep-rest, values-flows-keep-rest}
+use Rattle.entries.proofs.files.decide_flows.Reads as flows-file
 use Rattle.entries.proofs.files.replay.Reads as replay-file
 use Rattle.entries.proofs.lists.decide.Reads as decide-lists
+use Rattle.entries.proofs.lists.decide_flows.Reads as flows-lists
 use Rattle.entries.proofs.lists.replay.Reads as replay-lists
 
 -- what is left says both the answer and the place
@@ -42,6 +55,18 @@ one-decision-of-a-file κ a r s e f p q = p ∙ sym q
 
 pub one-decision-of-lists : (κ : _) (a : _) (r s : Decided) (e f : _) → decide-lists.Post κ a r e → decide-lists.Post κ a s f → r ≡ s
 one-decision-of-lists κ a r s e f p q = p ∙ sym q
+
+-- the same of what is written
+same-writing : {r s : Written} {p q : List ℕ} {w : Writing} → written-by r p ≡ w → written-by s q ≡ w → (r ≡ s) × (p ≡ q)
+same-writing one two = let same = one ∙ sym two in (ap (λ (w : Writing). w .answer) same, ap (λ (w : Writing). w .place) same)
+
+pub one-answer-to-flows-of-a-file : (κ : _) (a : _) (r s : Written) (e f : _) → flows-file.Post κ a r e → flows-file.Post κ a s f
+    → (r ≡ s) × (now (e .1 .1 .1 .0) ≡ now (f .1 .1 .1 .0))
+one-answer-to-flows-of-a-file κ a r s e f p q = same-writing p q
+
+pub one-answer-to-flows-of-lists : (κ : _) (a : _) (r s : Written) (e f : _) → flows-lists.Post κ a r e → flows-lists.Post κ a s f
+    → (r ≡ s) × (now (e .1 .1 .1 .0) ≡ now (f .1 .1 .1 .0))
+one-answer-to-flows-of-lists κ a r s e f p q = same-writing p q
 
 pub one-replay-of-a-file : (κ : _) (a : _) (r s : Ran) (e f : _) → replay-file.Post κ a r e → replay-file.Post κ a s f
     → (r ≡ s) × (now (e .1 .0) ≡ now (f .1 .0))
@@ -90,3 +115,32 @@ pub lists-that-give-no-list-keep-the-place : (κ : _) (a : _) (r : Ran) (e : _) 
     → now (e .1 .1 .1 .0) ≡ now (a .1 .1 .1 .0)
 lists-that-give-no-list-keep-the-place κ a r e p =
     kept r _ _ (now (a .1 .1 .1 .0)) p (values-keep (replayedValues (now (a .0)) (now (a .1 .0)) (now (a .1 .1 .0))) (now (a .1 .1 .1 .0)))
+
+-- For k below the number of flows, the k-th three bytes of the place are what `decide` answers for the k-th flow.
+pub flows-of-a-file-are-decided : (κ : _) (a : _) (n : ℕ) (e : _) → flows-file.Post κ a (Bytes n) e → AreBytes (now (a .0))
+    → (k : ℕ) → k < flow-count (now (a .1 .1 .0))
+    → decidedReading (a .1 .0) (flowAt k (now (a .1 .1 .0))) (readFile (now (a .0))) ≡ decided.Is (decisionAt k (now (e .1 .1 .1 .0)))
+flows-of-a-file-are-decided κ a n e p bytes k inside =
+    rw (ap (λ (w : Writing). w .place) p)
+    (file-flows-decided (a .1 .0) (now (a .0)) (now (a .1 .1 .0)) (now (a .1 .1 .1 .0)) n k bytes (sym (ap (λ (w : Writing). w .answer) p)) inside)
+
+pub flows-of-lists-are-decided : (κ : _) (a : _) (n : ℕ) (e : _) → flows-lists.Post κ a (Bytes n) e
+    → (k : ℕ) → k < flow-count (now (a .1 .1 .0))
+    → decidedAtZero (decidedValues (now (a .0)) (now (a .1 .0)) (flowAt k (now (a .1 .1 .0))))
+    ≡ decided.Is (decisionAt k (now (e .1 .1 .1 .0)))
+flows-of-lists-are-decided κ a n e p k inside =
+    rw (ap (λ (w : Writing). w .place) p)
+    (values-flows-decided (now (a .0)) (now (a .1 .0)) (now (a .1 .1 .0)) (now (a .1 .1 .1 .0)) n k (sym (ap (λ (w : Writing). w .answer) p)) inside)
+
+-- "When turned away, every lent place keeps its bytes."
+pub flows-of-a-turned-file-keep-the-place : (κ : _) (a : _) (refusal : Refusal) (e : _) → flows-file.Post κ a (Turned refusal) e
+    → now (e .1 .1 .1 .0) ≡ now (a .1 .1 .1 .0)
+flows-of-a-turned-file-keep-the-place κ a refusal e p =
+    ap (λ (w : Writing). w .place) p
+    ∙ (file-flows-keep-rest (a .1 .0) (now (a .0)) (now (a .1 .1 .0)) (now (a .1 .1 .1 .0))) .1 refusal (sym (ap (λ (w : Writing). w .answer) p))
+
+pub flows-of-turned-lists-keep-the-place : (κ : _) (a : _) (refusal : Refusal) (e : _) → flows-lists.Post κ a (Turned refusal) e
+    → now (e .1 .1 .1 .0) ≡ now (a .1 .1 .1 .0)
+flows-of-turned-lists-keep-the-place κ a refusal e p =
+    ap (λ (w : Writing). w .place) p
+    ∙ (values-flows-keep-rest (now (a .0)) (now (a .1 .0)) (now (a .1 .1 .0)) (now (a .1 .1 .1 .0))) .1 refusal (sym (ap (λ (w : Writing). w .answer) p))

@@ -1,5 +1,5 @@
--- Decisions over a file and over field values: an accepted file's catalogue and policies are what its parts are read as; rules and a policy
--- that pass their tests are what their bytes are read as. Assumes nothing.
+-- Decisions, of one flow and of many, over a file and over field values: an accepted file's catalogue and policies are what its parts are
+-- read as; rules and a policy that pass their tests are what their bytes are read as. Assumes nothing.
 use Prim.Native.Nat.{ℕ, _*_, _/_, _%_, _≤_, min}
 use native.Mathlib.Omega.{arith}
 use mathlib.Core.Path.{_≡_, refl, sym, _∙_, ap, ap₂}
@@ -11,25 +11,36 @@ use Rattle.policy.specs.Policy.{most-rules, decide, matching}
 use Rattle.policy.specs.Rule.{Rule}
 use Rattle.policy.specs.declared.Decision.{Decision}
 use Rattle.policy.specs.declared.Flow.{Flow}
-use Rattle.deployment.specs.Checked.{Checked}
+use Rattle.deployment.specs.Checked.{Checked, good, bad, _>>=_}
 use Rattle.deployment.specs.Bytes.{part, chunks}
 use Rattle.deployment.specs.Values.{rule-bytes, ruleOf, numbersOf}
 use Rattle.deployment.specs.Catalogue.{recordCount, recordsOf, catalogueOf}
 use Rattle.deployment.specs.Contents.{ruleRead}
 use Rattle.deployment.specs.File.{readFile}
-use Rattle.deployment.specs.FieldValues.{rulesRead, catalogueValue, policyValue}
+use Rattle.deployment.specs.FieldValues.{rulesRead, catalogueValue, policyValue, Writing, leftBy, unwritten}
 use Rattle.deployment.specs.declared.Why.{Why}
 use Rattle.deployment.specs.declared.Refusal.{Refusal}
+use Rattle.deployment.specs.declared.Written.the-variants.{Turned}
 use Rattle.deployment.proofs.Tests.{Each, each-then, tested, rule-tested}
 use Rattle.reader.specs.Answers.{checking, valueAt, fileRead}
+use Rattle.reader.specs.declared.Checking.{Checking}
 use Rattle.reader.specs.declared.Checking.the-variants.{Good, Bad}
 use Rattle.reader.specs.declared.Span.{Span}
 use Rattle.reader.specs.declared.Layout.{Layout}
 use Rattle.reader.specs.declared.FileRead.the-variants.{Refused}
-use Rattle.reader.proofs.Given.{Rules, failed, policy-passed}
+use Rattle.reader.proofs.Given.{Rules, failed, policy-passed, checking-last}
 use Rattle.reader.proofs.ShownReadings.{file-refused}
 use Rattle.reader.proofs.FileAnswers.{Holds}
-use Rattle.entries.specs.Answers.{decidedContents, decidedReading, decidedValues, decidedAtZero}
+use Rattle.entries.specs.Answers.{
+  decidedContents,
+  decidedReading,
+  decidingValues,
+  decidedValues,
+  decidedAtZero,
+  flowsDecided,
+  flowsReading,
+  flowsAtZero,
+}
 use Rattle.entries.specs.declared.Decided.the-variants as decided
 
 -- A file that is turned away.
@@ -38,13 +49,10 @@ pub turned-file : (of-target : Bool) (flow : Flow) (file : List ℕ) (refusal : 
 unfolding decidedReading
 turned-file of-target flow file refusal e = rw (file-refused file refusal e, decidedReading)
 
--- The policy that is asked for.
-module _ {of-target : Bool} {list : Span} (target initial : Span) where
-  pub asked-target : of-target ≡ true → list ≡ target → list ≡ cond of-target target initial
-  asked-target e is = rw e is
-
-  pub asked-initial : of-target ≡ false → list ≡ initial → list ≡ cond of-target target initial
-  asked-initial e is = rw e is
+pub flows-of-turned-file : (of-target : Bool) (flows place file : List ℕ) (refusal : Refusal) → Refused refusal ≡ fileRead file
+    → leftBy (Turned refusal) place ≡ flowsReading of-target flows (readFile file) place
+unfolding flowsReading unwritten
+flows-of-turned-file of-target flows place file refusal e = rw (file-refused file refusal e, flowsReading)
 
 -- A file that is accepted: its contents stand in it.
 module _ {file : List ℕ} {layout : Layout} (read : Holds (readFile file) file layout) where
@@ -56,18 +64,32 @@ module _ {file : List ℕ} {layout : Layout} (read : Holds (readFile file) file 
   list-read true list e = rw e (read .stands .target .numbers)
   list-read false list e = rw e (read .stands .initial .numbers)
 
-  pub decided-file : (of-target : Bool) (flow : Flow) (list rules : Span) (rule-part list-part : List ℕ) (d : Decision)
-      → list ≡ cond of-target (layout .target) (layout .initial) → rules ≡ record { start = 0; size = 30 * layout .rules }
-      → rule-part ≡ valueAt rules file → list-part ≡ valueAt list file
-      → d ≡ decide (matching (catalogueOf 3 rule-part) flow) (numbersOf list-part)
-      → decided.Is d ≡ decidedReading of-target flow (readFile file)
-  unfolding decidedReading decidedContents valueAt part
-  decided-file of-target flow list rules rule-part list-part d which where-rules rule-is list-is e =
-      let catalogue : catalogueOf 3 rule-part ≡ read .contents .catalogue =
-      rw (rule-is, where-rules) (read .stands .catalogue) in
-      let policy : numbersOf list-part ≡ cond of-target (read .contents .target) (read .contents .initial) =
-      ap numbersOf list-is ∙ list-read of-target list which in
-      rw (read .is, decidedReading) (ap decided.Is (e ∙ ap₂ (λ (c : List Rule) (l : List ℕ). decide (matching c flow) l) catalogue policy))
+  -- the parts at the places of the rules and of the policy that is asked for
+  module _ (of-target : Bool) {list rules : Span} {rule-part list-part : List ℕ}
+      (which : list ≡ cond of-target (layout .target) (layout .initial)) (where-rules : rules ≡ record { start = 0; size = 30 * layout .rules })
+      (rule-is : rule-part ≡ valueAt rules file) (list-is : list-part ≡ valueAt list file) where
+    catalogue-part : catalogueOf 3 rule-part ≡ read .contents .catalogue
+    unfolding valueAt part
+    catalogue-part = rw (rule-is, where-rules) (read .stands .catalogue)
+
+    policy-part : numbersOf list-part ≡ cond of-target (read .contents .target) (read .contents .initial)
+    policy-part = ap numbersOf list-is ∙ list-read of-target list which
+
+    pub decided-file : (flow : Flow) (d : Decision) → d ≡ decide (matching (catalogueOf 3 rule-part) flow) (numbersOf list-part)
+        → decided.Is d ≡ decidedReading of-target flow (readFile file)
+    unfolding decidedReading decidedContents
+    decided-file flow d e =
+        rw (read .is, decidedReading)
+        (ap decided.Is (e ∙ ap₂ (λ (c : List Rule) (l : List ℕ). decide (matching c flow) l) catalogue-part policy-part))
+
+    pub flows-of-file : (flows place : List ℕ) (left : Writing)
+        → left ≡ flowsDecided (λ flow. decide (matching (catalogueOf 3 rule-part) flow) (numbersOf list-part)) flows place
+        → left ≡ flowsReading of-target flows (readFile file) place
+    unfolding flowsReading decidedContents
+    flows-of-file flows place left e =
+        rw (read .is, flowsReading)
+        (e
+        ∙ ap₂ (λ (c : List Rule) (l : List ℕ). flowsDecided (λ flow. decide (matching c flow) l) flows place) catalogue-part policy-part)
 
 -- Rules that pass are what their bytes are read as.
 abbrev Passing : {A : Type 0} → (A → Type 0) → Checked A → Type 0
@@ -95,27 +117,53 @@ catalogue-is value =
     tested P (leb (length value) (rule-bytes * most-rules)) (λ many. tt) λ few.
     rules-are [] pieces (catalogueOf 0 value) (none-skipped pieces)
 
--- Field values: turned away at the rules, at the policy, or decided.
-module _ (rules value : List ℕ) (flow : Flow) where
-  pub turned-at-rules : (why : Why) → Bad why ≡ checking (catalogueValue rules)
-      → decided.Turned (record { why = why; at = 0 }) ≡ decidedAtZero (decidedValues rules value flow)
-  unfolding decidedValues decidedAtZero
-  turned-at-rules why e = rw (failed (catalogueValue rules) why e)
+-- Field values: tested at the rules, then at the policy.
+module _ (rules value : List ℕ) where
+  -- what decides flows, where both pass
+  abbrev deciding : Flow → Decision
+  deciding flow = decide (matching (catalogueOf 0 rules) flow) (numbersOf value)
 
-  module _ (passed : Rules rules) where
-    counted : min (length rules / rule-bytes) 1024 ≡ length (passed .catalogue)
-    counted = passed .few ∙ sym (passed .counted)
+  pub tested-at-rules : (why : Why) → Bad why ≡ checking (catalogueValue rules) → Bad why ≡ checking (decidingValues rules value)
+  unfolding decidingValues checking
+  tested-at-rules why e = rw (failed (catalogueValue rules) why e)
 
-    pub turned-at-policy : (why : Why) → Bad why ≡ checking (policyValue (min (length rules / rule-bytes) 1024) value)
-        → decided.Turned (record { why = why; at = 0 }) ≡ decidedAtZero (decidedValues rules value flow)
+  pub tested-at-policy : Rules rules → (c : Checking) → c ≡ checking (policyValue (min (length rules / rule-bytes) 1024) value)
+      → c ≡ checking (decidingValues rules value)
+  unfolding decidingValues
+  tested-at-policy passed c e =
+      let counted : min (length rules / rule-bytes) 1024 ≡ length (passed .catalogue) = passed .few ∙ sym (passed .counted) in
+      rw (passed .read) (rw counted at e ∙ checking-last (policyValue (length (passed .catalogue)) value) _)
+
+  pub deciding-passed : Good ≡ checking (decidingValues rules value) → decidingValues rules value ≡ good deciding
+  unfolding decidingValues checking
+  deciding-passed e = by-rules (catalogueValue rules) refl (catalogue-is rules) e
+    where
+      by-rules : (read : Checked (List Rule)) → catalogueValue rules ≡ read → Passing (λ c. c ≡ catalogueOf 0 rules) read
+          → Good ≡ checking (decidingValues rules value) → decidingValues rules value ≡ good deciding
+      by-rules (good c) is same e =
+          let passes : Good ≡ checking (policyValue (length c) value) =
+          rw (is, decidingValues) at e ∙ sym (checking-last (policyValue (length c) value) _) in
+          rw (is, policy-passed (length c) value passes, same)
+      by-rules (bad why) is same e = absurd (let turned : Good ≡ Bad why = rw is at e in let z : _≡_ {A = ℕ} 0 1 = cc in omega arith)
+
+  -- turned away
+  module _ (why : Why) (e : Bad why ≡ checking (decidingValues rules value)) where
+    pub turned-values : (flow : Flow) → decided.Turned (record { why = why; at = 0 }) ≡ decidedAtZero (decidedValues rules value flow)
     unfolding decidedValues decidedAtZero
-    turned-at-policy why e =
-        rw (passed .read, failed (policyValue (length (passed .catalogue)) value) why (rw counted at e))
+    turned-values flow = rw (failed (decidingValues rules value) why e)
 
-    pub decided-values : (d : Decision) → Good ≡ checking (policyValue (min (length rules / rule-bytes) 1024) value)
-        → d ≡ decide (matching (catalogueOf 0 rules) flow) (numbersOf value)
-        → decided.Is d ≡ decidedAtZero (decidedValues rules value flow)
+    pub flows-of-turned-values : (flows place : List ℕ)
+        → leftBy (Turned (record { why = why; at = 0 })) place ≡ flowsAtZero (decidingValues rules value) flows place
+    unfolding flowsAtZero unwritten
+    flows-of-turned-values flows place = rw (failed (decidingValues rules value) why e)
+
+  -- or decided
+  module _ (e : Good ≡ checking (decidingValues rules value)) where
+    pub decided-values : (flow : Flow) (d : Decision) → d ≡ deciding flow → decided.Is d ≡ decidedAtZero (decidedValues rules value flow)
     unfolding decidedValues decidedAtZero
-    decided-values d e is =
-        let rules-read : passed .catalogue ≡ catalogueOf 0 rules = rw (passed .read) at (catalogue-is rules) in
-        rw (passed .read, policy-passed (length (passed .catalogue)) value (rw counted at e)) (ap decided.Is (rw rules-read is))
+    decided-values flow d is = rw (deciding-passed e) (ap decided.Is is)
+
+    pub flows-of-values : (flows place : List ℕ) (left : Writing) → left ≡ flowsDecided deciding flows place
+        → left ≡ flowsAtZero (decidingValues rules value) flows place
+    unfolding flowsAtZero
+    flows-of-values flows place left is = rw (deciding-passed e) is

@@ -1,10 +1,11 @@
--- The whole answer of each entry: the decision of a flow, and the replay with every byte of the lent place, over a file and over field
--- values. Assumes nothing.
-use Prim.Native.Nat.{ℕ}
+-- The whole answer of each entry: the decision of a flow, the decisions of many and the replay with every byte of the lent place, over a
+-- file and over field values. Assumes nothing.
+use Prim.Native.Nat.{ℕ, _%_}
 use mathlib.Core.Bool.{Bool, cond}
-use mathlib.Core.List.{List}
+use mathlib.Core.List.{List, map}
 use mathlib.Core.Option.{some}
 use lib.ListN.{length}
+use lib.Dec.{eqb}
 use Rattle.policy.specs.Policy.{decide, matching}
 use Rattle.policy.specs.Replay.{Replayed, ended, broken, replay}
 use Rattle.policy.specs.declared.Decision.{Decision}
@@ -13,7 +14,9 @@ use Rattle.deployment.specs.Checked.{Checked, good, bad, _>>=_}
 use Rattle.deployment.specs.Values.{numbersBytes}
 use Rattle.deployment.specs.Contents.{Contents}
 use Rattle.deployment.specs.File.{Reading, accepted, refused}
-use Rattle.deployment.specs.FieldValues.{catalogueValue, policyValue, scriptValue, writing}
+use Rattle.deployment.specs.FieldValues.{catalogueValue, policyValue, scriptValue, Writing, unwritten, writing}
+use Rattle.deployment.specs.Flows.{flow-bytes, flowsOf, decisionsBytes}
+use Rattle.deployment.specs.declared.Why.the-variants.{Length}
 use Rattle.deployment.specs.declared.Written.{Written}
 use Rattle.deployment.specs.declared.Written.the-variants.{Bytes, Turned}
 use Rattle.replay.specs.Answers.{commandsOf}
@@ -31,17 +34,39 @@ unfoldable pub decidedReading : Bool → Flow → Reading → Decided
 decidedReading of-target flow (accepted c) = decided.Is (decidedContents of-target flow c)
 decidedReading of-target flow (refused refusal) = decided.Turned refusal
 
--- "4 for rules not of 27 bytes each, 7, then 5 and 6 rule by rule, then 4, 8, 9" for the policy
-unfoldable pub decidedValues : List ℕ → List ℕ → Flow → Checked Decision
-decidedValues rules value flow = do
+-- "4 for rules not of 27 bytes each, 7, then 5 and 6 rule by rule, then 4, 8, 9" for the policy: what decides flows
+unfoldable pub decidingValues : List ℕ → List ℕ → Checked (Flow → Decision)
+decidingValues rules value = do
   catalogue ← catalogueValue rules
   policy ← policyValue (length catalogue) value
-  good (decide (matching catalogue flow) policy)
+  good (λ flow. decide (matching catalogue flow) policy)
+
+unfoldable pub decidedValues : List ℕ → List ℕ → Flow → Checked Decision
+decidedValues rules value flow = do
+  decides ← decidingValues rules value
+  good (decides flow)
 
 -- "all at position 0"
 unfoldable pub decidedAtZero : Checked Decision → Decided
 decidedAtZero (good d) = decided.Is d
 decidedAtZero (bad why) = decided.Turned (record { why = why; at = 0 })
+
+-- Many flows: 4 at position 0 for flows not of 13 bytes each; the decision of each, in their order; "and last 13".
+unfoldable pub flowsDecided : (Flow → Decision) → List ℕ → List ℕ → Writing
+flowsDecided decides flows place =
+    cond (eqb (length flows % flow-bytes) 0)
+    (writing (decisionsBytes (map decides (flowsOf flows))) place)
+    (unwritten (record { why = Length; at = 0 }) place)
+
+-- the whole answer to a file; "When turned away, every lent place keeps its bytes"
+unfoldable pub flowsReading : Bool → List ℕ → Reading → List ℕ → Writing
+flowsReading of-target flows (accepted c) place = flowsDecided (λ flow. decidedContents of-target flow c) flows place
+flowsReading of-target flows (refused refusal) place = unwritten refusal place
+
+-- "all at position 0"
+unfoldable pub flowsAtZero : Checked (Flow → Decision) → List ℕ → List ℕ → Writing
+flowsAtZero (good decides) flows place = flowsDecided decides flows place
+flowsAtZero (bad why) flows place = unwritten (record { why = why; at = 0 }) place
 
 -- what a replay leaves: how it ends, and every byte of the place
 pub record Left : Type 0 where

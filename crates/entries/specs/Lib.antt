@@ -1,2 +1,3 @@
--- What the entries answer, over the definitions of the crates below.
+-- What the entries answer, over the definitions of the crates below, and what is claimed of it.
 pub mod Answers
+pub mod Claims

@@ -1,17 +1,23 @@
 // The entries over a deployment file.
 
 ghost use mathlib.Core.Path.{_≡_};
+ghost use mathlib.Core.Bool.{cond};
+ghost use Prim.Native.Nat.{_*_, _≤_};
 ghost use Rattle.deployment.specs.File.{readFile, readToJudge};
-ghost use Rattle.entries.specs.Answers.{decidedReading, replayedReading, leftBy};
+ghost use Rattle.deployment.specs.FieldValues as writings;
+ghost use Rattle.entries.specs.Answers.{decidedReading, flowsReading, replayedReading, leftBy};
 use super::Decided;
 use super::Ran;
+use super::flows::decide_into;
 use super::last::replay_into;
 use decision::decided;
+use deployment::Written;
 pub use judge::judge_file as judge;
 pub use planner::plan_one_file as plan_one;
 pub use planner::plan_two_file as plan_two;
 use policy::Flow;
 use reader::FileRead;
+use reader::Layout;
 use reader::Span;
 use reader::file::HEAD_BYTES;
 pub use reader::file::read;
@@ -22,7 +28,29 @@ use reader::values::RULE_BYTES;
 // A rule's field: its head and its value.
 const RULE_FIELD_BYTES: usize = HEAD_BYTES + RULE_BYTES;
 
-// Decides a flow by the target policy of the file, if asked for, or else by its initial one. The rules stand first, each behind its field's head.
+// Where the policy that is asked for stands.
+fn asked(layout: Layout, of_target: bool) -> Span
+    ensures { λ s. ⌜ s ≡ cond «of_target» (layout .target) (layout .initial) ⌝ }
+{
+    if of_target {
+        layout.target
+    } else {
+        layout.initial
+    }
+}
+
+// Where so many rules stand: they are first in a file, each behind its field's head.
+fn rules_of(count: usize) -> Span
+    requires { ⌜ count ≤ 1024 ⌝ }
+    ensures { λ s. ⌜ s ≡ record { start = 0; size = 30 * count } ⌝ }
+{
+    Span {
+        start: 0,
+        size: RULE_FIELD_BYTES * count,
+    }
+}
+
+// Decides a flow by the target policy of the file, if asked for, or else by its initial one.
 pub fn decide(file: &[u8], of_target: bool, flow: Flow) -> Decided
     ensures { λ r. ⌜ r ≡ decidedReading «of_target» flow (readFile (now (file .entry))) ⌝ }
 {
@@ -30,19 +58,38 @@ pub fn decide(file: &[u8], of_target: bool, flow: Flow) -> Decided
     match found {
         FileRead::Refused(refusal) => Decided::Turned(refusal),
         FileRead::Accepted(layout) => {
-            let list = if of_target {
-                layout.target
-            } else {
-                layout.initial
-            };
-            let size = RULE_FIELD_BYTES * layout.rules;
-            let rules = Span { start: 0, size };
+            let list = asked(layout, of_target);
+            let rules = rules_of(layout.rules);
             Decided::Is(decided(
                 value(file, rules),
                 HEAD_BYTES as u8,
                 value(file, list),
                 flow,
             ))
+        }
+    }
+}
+
+// Decides flows by a policy of the file, read once: 13 bytes a flow, and three of the first bytes of `place` for its action and place.
+pub fn decide_flows(file: &[u8], of_target: bool, flows: &[u8], place: &mut [u8]) -> Written
+    ensures { λ r. ⌜
+        writings.leftBy r (now (place .exit))
+        ≡ flowsReading «of_target» (now (flows .entry)) (readFile (now (file .entry))) (now (place .entry))
+        ⌝ }
+{
+    let found = read(file);
+    match found {
+        FileRead::Refused(refusal) => Written::Turned(refusal),
+        FileRead::Accepted(layout) => {
+            let list = asked(layout, of_target);
+            let rules = rules_of(layout.rules);
+            decide_into(
+                value(file, rules),
+                HEAD_BYTES as u8,
+                value(file, list),
+                flows,
+                place,
+            )
         }
     }
 }

@@ -1,11 +1,12 @@
 // What callers who have only bytes can ask, over a file (files.rt) and over field values (lists.rt): read, write, decide, replay, plan, judge.
-// Each entry answers in full, and none has a `requires`. Decision and replay are written here; the others stand in crates of their own.
+// Each entry answers in full, and none has a `requires`. Decisions and replay are written here; the others stand in crates of their own.
 
 use deployment::Refusal;
 use policy::Decision;
 use policy::Fault;
 
 pub mod files;
+mod flows;
 mod last;
 pub mod lists;
 

@@ -1,6 +1,6 @@
 // Runs the entries on rows of cases and prints each whole answer, with a checksum of the place that was lent. Each argument names a row. A case: is it
 // about a file (0) or field values (1), is there a keep list, is there a script; two bytes for the size of the place; a flow in 13 bytes; then its parts,
-// themselves a row: the file; or the rules, both policies, the keep list and the script.
+// themselves a row: the file; or the rules, both policies, the keep list and the script; and last flows, for the entries that take many at once.
 
 use cases::bytes_at;
 use cases::next_place;
@@ -8,6 +8,7 @@ use cases::print_number;
 use cases::print_reading;
 use cases::print_refusal;
 use cases::read_row;
+use deployment::Written;
 use deployment::four;
 use deployment::two;
 use entries::Decided;
@@ -56,6 +57,8 @@ const PARTS: usize = 18;
 // Which part is which.
 const FILE: usize = 0;
 
+const FILE_FLOWS: usize = 1;
+
 const RULES: usize = 0;
 
 const INITIAL: usize = 1;
@@ -65,6 +68,8 @@ const TARGET: usize = 2;
 const KEEP: usize = 3;
 
 const SCRIPT: usize = 4;
+
+const FLOWS: usize = 5;
 
 fn print(word: &[u8]) {
     io::write_all(STDOUT_FILENO, word);
@@ -167,6 +172,15 @@ fn print_planned(word: &[u8], answer: Planned, place: &[u8]) {
     print_place(place);
 }
 
+fn print_written(word: &[u8], answer: Written, place: &[u8]) {
+    print(word);
+    match answer {
+        Written::Turned(refusal) => print_refusal(refusal),
+        Written::Bytes(bytes) => print_number(b"bytes ", bytes),
+    }
+    print_place(place);
+}
+
 fn fill(place: &mut [u8]) {
     let mut i = 0;
     while i < place.len() {
@@ -247,6 +261,21 @@ fn write_file(file: &[u8], place: &mut [u8]) {
     print_planned(b"plan 2 ", files::plan_two(file, place), place);
 }
 
+fn decide_file(file: &[u8], flows: &[u8], place: &mut [u8]) {
+    fill(place);
+    print_written(
+        b"flows by initial ",
+        files::decide_flows(file, false, flows, place),
+        place,
+    );
+    fill(place);
+    print_written(
+        b"flows by target ",
+        files::decide_flows(file, true, flows, place),
+        place,
+    );
+}
+
 fn check_lists(case: &[u8]) -> Checking {
     lists::check(
         part(case, RULES),
@@ -322,6 +351,30 @@ fn write_lists(case: &[u8], place: &mut [u8]) {
     print_planned(b"plan 2 ", plan_two_lists(case, place), place);
 }
 
+fn flows_lists(case: &[u8], list: usize, place: &mut [u8]) -> Written {
+    lists::decide_flows(
+        part(case, RULES),
+        part(case, list),
+        part(case, FLOWS),
+        place,
+    )
+}
+
+fn decide_lists(case: &[u8], place: &mut [u8]) {
+    fill(place);
+    print_written(
+        b"flows by initial ",
+        flows_lists(case, INITIAL, place),
+        place,
+    );
+    fill(place);
+    print_written(
+        b"flows by target ",
+        flows_lists(case, TARGET, place),
+        place,
+    );
+}
+
 // The lent place is the first bytes of a room that has as many as two bytes can say.
 fn print_case(case: &[u8]) {
     let mut room = [LENT; 65536];
@@ -329,10 +382,12 @@ fn print_case(case: &[u8]) {
     if byte(case, OVER_LISTS) == 1 {
         read_lists(case, flow(case));
         write_lists(case, &mut room[..size]);
+        decide_lists(case, &mut room[..size]);
     } else {
         let file = part(case, FILE);
         read_file(file, flow(case));
         write_file(file, &mut room[..size]);
+        decide_file(file, part(case, FILE_FLOWS), &mut room[..size]);
     }
 }
 

@@ -15,6 +15,7 @@ use super::Checking;
 use super::rule::apart;
 use super::rule::rule_tested;
 use deployment::Decoded;
+pub use deployment::RULE_BYTES;
 use deployment::Why;
 use deployment::command_at;
 use deployment::commands;
@@ -23,9 +24,6 @@ use deployment::number_at;
 use policy::Command;
 use running::Naming;
 use running::Running;
-
-// "a rule, 27 bytes"
-pub const RULE_BYTES: usize = 27;
 
 // "at most 1,024 rules in the catalogue"
 pub const MOST_RULES: usize = 1024;

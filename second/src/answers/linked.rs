@@ -1,7 +1,6 @@
 //! The answers of the linked library, in the order of ours.
 
 use super::{Answer, Answers, Input, LENT_BYTE};
-use crate::file;
 use crate::library;
 
 /// No text is longer.
@@ -36,13 +35,12 @@ fn over_files(input: &Input) -> Vec<Answer> {
             all.push(Answer::lend("decide file", 0, |_, words| library::decide_file(file, of_target, flow, words)));
         }
     }
+    for of_target in [false, true] {
+        all.push(Answer::lend("decide flows file", rooms.flows, |place, words| {
+            library::decide_flows_file(file, of_target, &input.flow_bytes, place, words)
+        }));
+    }
     all
-}
-
-/// Whether a policy over rules passes its tests, as the library itself says.
-fn accepted(rules: &[u8], list: &[u8]) -> bool {
-    let values = file::Values { rules, initial: list, ..file::Values::default() };
-    library::check(&values, &mut []) == 0
 }
 
 fn over_values(input: &Input) -> Vec<Answer> {
@@ -61,12 +59,12 @@ fn over_values(input: &Input) -> Vec<Answer> {
     for flow in &input.flows {
         for list in [initial, values.target] {
             all.push(Answer::lend("decide values", 0, |_, words| library::decide(rules, list, flow, words)));
-            if accepted(rules, list) {
-                all.push(Answer::lend("decide accepted values", 0, |_, words| {
-                    library::decide_accepted(rules, list, flow, words)
-                }));
-            }
         }
+    }
+    for list in [initial, values.target] {
+        all.push(Answer::lend("decide flows values", input.rooms.flows, |place, words| {
+            library::decide_flows(rules, list, &input.flow_bytes, place, words)
+        }));
     }
     all
 }

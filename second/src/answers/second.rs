@@ -53,11 +53,8 @@ fn decide_file(file: &[u8], of_target: bool, flow: &Flow) -> Outcome {
     })
 }
 
-/// The same for values that pass their tests; nothing for others.
-fn decide_accepted(rules: &[u8], list: &[u8], flow: &Flow) -> Option<Outcome> {
-    let rules = file::check_rules(rules).ok()?;
-    file::check_policy(list, rules.len()).ok()?;
-    Some((0, decision(policy::decide(&rules, list, flow))))
+fn written(bytes: Result<usize, Refusal>) -> Outcome {
+    done(bytes, |bytes| vec![bytes])
 }
 
 fn planned(kind: u8, contents: Result<Contents, Refusal>, place: &mut [u8]) -> Outcome {
@@ -70,7 +67,7 @@ fn replayed(scripted: Scripted, place: &mut [u8]) -> Outcome {
         let mut list = RunningList::new(&file::numbers(contents.initial), contents.rules.len());
         match replay::replay(&mut list, &commands_of(script), |_, _| ()) {
             Err(broken) => (u32::from(broken.number), vec![broken.step]),
-            Ok(()) => done(file::put(&file::list_value(list.rules()), place), |bytes| vec![bytes]),
+            Ok(()) => written(file::put(&file::list_value(list.rules()), place)),
         }
     })
 }
@@ -84,7 +81,7 @@ fn judged(scripted: Scripted) -> Outcome {
 }
 
 fn put_text(text: &str, place: &mut [u8]) -> Outcome {
-    done(file::put(text.as_bytes(), place), |bytes| vec![bytes])
+    written(file::put(text.as_bytes(), place))
 }
 
 /// Values tested with the script that is lent beside them.
@@ -107,6 +104,7 @@ pub fn rooms(input: &Input, maker: &mut RoomMaker) -> Rooms {
         replay: room(replayed(file::read_with_script(file), &mut [])),
         texts: [plan_text(file), judge_text(file)].map(|text| room(put_text(&text, &mut []))),
         replay_values: room(replayed(to_replay(input), &mut [])),
+        flows: maker.room(Some(policy::DECISION_BYTES * input.flows.len())),
     }
 }
 
@@ -135,6 +133,11 @@ fn over_files(input: &Input) -> Vec<Answer> {
     for flow in &input.flows {
         all.extend([false, true].map(|of_target| lend("decide file", 0, |_| decide_file(file, of_target, flow))));
     }
+    all.extend([false, true].map(|of_target| {
+        lend("decide flows file", rooms.flows, |place| {
+            written(policy::decide_flows_file(file, of_target, &input.flow_bytes, place))
+        })
+    }));
     all
 }
 
@@ -142,7 +145,7 @@ fn over_values(input: &Input) -> Vec<Answer> {
     let (values, made) = (&input.made.values(), &input.made);
     let mut all = vec![
         lend("check values", 0, |_| done(file::check(values), |_| vec![])),
-        lend("write values", made.file_room, |place| done(file::write(values, place), |bytes| vec![bytes])),
+        lend("write values", made.file_room, |place| written(file::write(values, place))),
         lend("replay values", input.rooms.replay_values, |place| replayed(to_replay(input), place)),
         lend("plan 1 values", made.plan_room, |place| planned(1, file::check(values), place)),
         lend("plan 2 values", made.plan_room, |place| planned(2, file::check(values), place)),
@@ -152,10 +155,13 @@ fn over_values(input: &Input) -> Vec<Answer> {
         for list in [values.initial, values.target] {
             let decided = policy::decide_values(values.rules, list, flow);
             all.push(lend("decide values", 0, |_| done(decided, decision)));
-            let accepted = decide_accepted(values.rules, list, flow);
-            all.extend(accepted.map(|outcome| lend("decide accepted values", 0, |_| outcome)));
         }
     }
+    all.extend([values.initial, values.target].map(|list| {
+        lend("decide flows values", input.rooms.flows, |place| {
+            written(policy::decide_flows_values(values.rules, list, &input.flow_bytes, place))
+        })
+    }));
     all
 }
 

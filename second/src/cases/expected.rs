@@ -6,7 +6,7 @@ use crate::commands::commands_of;
 use crate::file::{self, Contents, Refusal, Values};
 use crate::judge::judge;
 use crate::plan::plan_contents;
-use crate::policy::{self, Decision, Flow};
+use crate::policy::{self, Decision};
 use crate::replay::{self, RunningList};
 
 /// Contents with the script that is to be replayed.
@@ -87,7 +87,15 @@ fn later_lines(room: usize, contents: Result<Contents, Refusal>, judged: Scripte
     format!("judge {judge}\nreplay {replay}\nplan 1 {one}\nplan 2 {two}\n")
 }
 
-fn file_text(bytes: &[u8], flow: &Flow, room: usize) -> String {
+/// The lines of many flows, decided by both policies.
+fn flow_lines(room: usize, mut decide: impl FnMut(bool, &mut [u8]) -> Result<usize, Refusal>) -> String {
+    let [initial, target] = [false, true]
+        .map(|of_target| lent(room, |place| or_refused(decide(of_target, place), |bytes| format!("bytes {bytes}"))));
+    format!("flows by initial {initial}\nflows by target {target}\n")
+}
+
+fn file_text(bytes: &[u8], case: &Case) -> String {
+    let Case { flow, room, .. } = case;
     let contents = file::read(bytes);
     let scripted = file::read_with_script(bytes);
     let read = or_refused(contents.clone(), |contents| reading(bytes, &contents));
@@ -97,14 +105,16 @@ fn file_text(bytes: &[u8], flow: &Flow, room: usize) -> String {
     };
     let (initial, target) = (decide(|contents| contents.initial.to_vec()), decide(|contents| contents.target.to_vec()));
     let first = format!("read {read}\nread to judge {to_judge}\ninitial {initial}\ntarget {target}\n");
-    first + &later_lines(room, contents, scripted.clone(), scripted)
+    let flows = flow_lines(*room, |of_target, place| policy::decide_flows_file(bytes, of_target, &case.flows, place));
+    first + &later_lines(*room, contents, scripted.clone(), scripted) + &flows
 }
 
 fn checked<'a>(values: &Values<'a>, script: &'a [u8]) -> Scripted<'a> {
     file::check(&Values { script: Some(script), ..*values }).map(|contents| (contents, script))
 }
 
-fn lists_text(given: &Given, flow: &Flow, room: usize) -> String {
+fn lists_text(given: &Given, case: &Case) -> String {
+    let Case { flow, room, .. } = case;
     let values = given.values();
     let contents = file::check(&values);
     let check = match &contents {
@@ -116,12 +126,16 @@ fn lists_text(given: &Given, flow: &Flow, room: usize) -> String {
     let judged = checked(&values, given.lent_script());
     // The replay is given neither a target nor a keep list.
     let replay = checked(&Values { target: &[], keep: None, ..values }, given.lent_script());
-    first + &later_lines(room, contents, judged, replay)
+    let flows = flow_lines(*room, |of_target, place| {
+        let list = if of_target { values.target } else { values.initial };
+        policy::decide_flows_values(values.rules, list, &case.flows, place)
+    });
+    first + &later_lines(*room, contents, judged, replay) + &flows
 }
 
 pub fn text(case: &Case) -> String {
     match &case.over {
-        Over::File(file) => file_text(file, &case.flow, case.room),
-        Over::Lists(given) => lists_text(given, &case.flow, case.room),
+        Over::File(file) => file_text(file, case),
+        Over::Lists(given) => lists_text(given, case),
     }
 }

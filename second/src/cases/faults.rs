@@ -7,7 +7,7 @@ use crate::file::RULE_BYTES;
 
 type Fault = fn(&mut Given);
 
-fn sound() -> Given {
+pub fn sound() -> Given {
     given(4, &[0, 1, 2], &[2, 0, 1]).keep(&[0, 1]).script(2, &[Mov { i: 3, j: 1 }])
 }
 
@@ -63,13 +63,17 @@ fn with(faults: &[Fault]) -> Given {
     given
 }
 
+/// Values with one fault each.
+pub fn single() -> Vec<Given> {
+    FAULTS.iter().chain(&OTHERS).map(|&fault| with(&[fault])).collect()
+}
+
 pub fn all() -> Vec<Case> {
-    let single = FAULTS.iter().chain(&OTHERS).map(|&fault| with(&[fault]));
-    let mut cases = both_of_all(single.chain([sound()]).collect());
+    let mut cases = both_of_all([single(), vec![sound()]].concat());
     for (index, &later) in FAULTS.iter().enumerate() {
         for &earlier in &FAULTS[..index] {
             let over = Over::Lists(with(&[later, earlier]));
-            cases.push(Case { over, room: 0, flow: NO_PORTS });
+            cases.push(Case::new(over, 0, NO_PORTS));
         }
     }
     cases

@@ -4,10 +4,10 @@
 use super::{faults, made, scripts, Case, Given, Over};
 use crate::commands::Command::{self, *};
 use crate::commands::{commands_of, script_value};
-use crate::file::{list_value, numbers, MOST_COMMANDS, MOST_IN_POLICY, MOST_RULES};
-use crate::inputs::{encode, flow_of, plain_rule};
+use crate::file::{list_value, numbers, MOST_COMMANDS, MOST_IN_POLICY, MOST_RULES, RULE_BYTES};
+use crate::inputs::{encode, flow_near, flow_of, plain_rule};
 use crate::plan::plan;
-use crate::policy::{Flow, Range};
+use crate::policy::{Flow, Range, FLOW_BYTES};
 
 /// A flow of a protocol without ports.
 pub const NO_PORTS: Flow = Flow { protocol: 47, source: 1, source_port: 0, destination: 2, destination_port: 0 };
@@ -15,6 +15,9 @@ pub const NO_PORTS: Flow = Flow { protocol: 47, source: 1, source_port: 0, desti
 /// Room for any small plan, and for the longest.
 const SMALL_ROOM: usize = 64;
 const GREAT_ROOM: usize = 6000;
+
+/// Room for the decisions of three flows, and a byte more.
+const FLOW_ROOM: usize = 10;
 
 /// Policies over so many plain rules.
 pub fn given(rules: u16, initial: &[u16], target: &[u16]) -> Given {
@@ -45,8 +48,7 @@ impl Given {
 
 /// The same values in a file and as lists.
 pub fn both(given: Given, room: usize, flow: Flow) -> [Case; 2] {
-    let file = Over::File(given.file());
-    [Case { over: file, room, flow }, Case { over: Over::Lists(given), room, flow }]
+    [Over::File(given.file()), Over::Lists(given)].map(|over| Case::new(over, room, flow))
 }
 
 pub fn both_of_all(all: Vec<Given>) -> Vec<Case> {
@@ -86,7 +88,7 @@ fn examples() -> Vec<Case> {
         given(3, &[0, 1], &[0, 1, 2]).script(2, &[Ins { i: 3, r: 2 }]),
         permit_port_zero,
     ]);
-    cases.push(Case { over: Over::File(Vec::new()), room: 0, flow: NO_PORTS });
+    cases.push(Case::new(Over::File(Vec::new()), 0, NO_PORTS));
     cases
 }
 
@@ -112,8 +114,36 @@ fn flows() -> Vec<Case> {
         for number in [low - 2, low - 1, low, high, high + 1, high + 2] {
             let mut numbers = narrow.map(|range| if number < high { range.high } else { range.low });
             numbers[which] = number;
-            cases.extend(both(given.clone(), 0, flow_of(numbers)));
+            cases.extend(both(given.clone(), FLOW_ROOM, flow_of(numbers)));
         }
+    }
+    cases
+}
+
+/// The same with other flows for the entries that take many at once.
+fn with_flows(given: &Given, room: usize, flows: &[u8]) -> [Case; 2] {
+    both(given.clone(), room, NO_PORTS).map(|case| Case { flows: flows.to_vec(), ..case })
+}
+
+/// Flows of every length up to three of them, whole ones with every room up to a byte more than enough; flows
+/// that aren't whole beside values with a fault; and many flows, by 512 rules.
+fn many_flows() -> Vec<Case> {
+    let bytes: Vec<u8> = (0..3 * FLOW_BYTES).map(|index| index as u8).collect();
+    let mut cases = Vec::new();
+    for length in 0..=bytes.len() {
+        let rooms = if length % FLOW_BYTES == 0 { 0..=FLOW_ROOM } else { FLOW_ROOM..=FLOW_ROOM };
+        cases.extend(rooms.flat_map(|room| with_flows(&faults::sound(), room, &bytes[..length])));
+    }
+    for given in faults::single() {
+        cases.extend(with_flows(&given, 0, &bytes[1..]));
+    }
+    let numbers: Vec<u16> = (0..MOST_IN_POLICY as u16).collect();
+    let reversed: Vec<u16> = numbers.iter().rev().copied().collect();
+    let full = given(MOST_IN_POLICY as u16, &numbers, &reversed);
+    let rules: Vec<&[u8]> = full.rules.chunks_exact(RULE_BYTES).collect();
+    let flows: Vec<u8> = (0..600).flat_map(|index| flow_near(&rules, 1, index).bytes()).collect();
+    for room in [1799, 1800, 1801] {
+        cases.extend(with_flows(&full, room, &flows));
     }
     cases
 }
@@ -171,6 +201,7 @@ pub fn all() -> Vec<(&'static str, Vec<Case>)> {
         ("example", examples()),
         ("room", rooms()),
         ("flow", flows()),
+        ("flows", many_flows()),
         ("limit", limits()),
         ("script", scripts::all()),
         ("fault", faults::all()),

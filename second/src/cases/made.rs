@@ -59,7 +59,7 @@ pub fn files() -> Vec<Case> {
         if file.len() <= MOST_BYTES && outcomes.wants(&judge_text(&file)) {
             let flow = any_flow(read(&file).unwrap_or_default().rules.into_iter(), index);
             let room = any_room(inputs::values(SEED, index).plan_room, index);
-            cases.push(Case { over: Over::File(file), room, flow });
+            cases.push(Case::new(Over::File(file), room, flow));
         }
     }
     cases
@@ -78,7 +78,7 @@ pub fn lists() -> Vec<Case> {
             let flow = any_flow(made.rules.chunks_exact(RULE_BYTES), index);
             let room = any_room(made.plan_room, index);
             let inputs::MadeValues { rules, initial, target, keep, script, .. } = made;
-            cases.push(Case { over: Over::Lists(Given { rules, initial, target, keep, script }), room, flow });
+            cases.push(Case::new(Over::Lists(Given { rules, initial, target, keep, script }), room, flow));
         }
     }
     cases

@@ -1,16 +1,14 @@
 -- `files::decide` meets its contract: the parts at the places of an accepted file are read as its catalogue and its policy, and the decision
 -- over them is that of the contents. Assumes nothing.
-use Prim.Native.Nat.{ℕ}
 use native.Mathlib.Omega.{arith}
-use mathlib.Core.Path.{_≡_, refl, sym, _∙_}
-use mathlib.Core.Bool.{cond}
-use mathlib.Core.Logic.{⊎-elim}
+use mathlib.Core.Path.{sym, _∙_}
 use mathlib.Core.List.{List}
+use Prim.Native.Nat.{ℕ}
 use Rattle.deployment.specs.File.{readFile}
 use Rattle.deployment.proofs.Bytes.{elements-are-bytes}
 use Rattle.reader.specs.declared.Layout.{Layout}
 use Rattle.reader.proofs.FileAnswers.{Holds, file-holds}
-use Rattle.entries.proofs.Decisions.{turned-file, asked-target, asked-initial, few-rules, decided-file}
+use Rattle.entries.proofs.Decisions.{turned-file, few-rules, decided-file}
 use borrow.Author.Needs.{needs}
 use Rattle.entries.proofs.files.decide.Statement.{statement}
 use Rattle.entries.proofs.files.decide.Tie as tie
@@ -28,17 +26,6 @@ stands c =
     file-holds (file c) (layout c) (elements-are-bytes (file c) (λ i. omega (arith, read .before .shared-slice-known .given i)))
     (sym (c .before .found2 .given .1) ∙ read .read .ensures)
 
--- the policy that is asked for
-asked : (c : tie.Joined1) →
-    let a = c .before .before .before .before .before .before .args in
-    c .if1 .list ≡ cond (a .of-target) (layout (c .before) .target) (layout (c .before) .initial)
-asked c =
-    let at = layout (c .before) in
-    ⊎-elim
-    (λ w. asked-target (at .target) (at .initial) (w .0 .taken) (w .2))
-    (λ w. asked-initial (at .target) (at .initial) (w .0 .left) (w .2))
-    (c .if1 .came)
-
 read-requires : tie.Need-read-requires
 read-requires c κs = search needs
 
@@ -48,8 +35,11 @@ enum-known-found c = search needs
 enum-known-found-2 : tie.Need-enum-known-found-2
 enum-known-found-2 c = search needs
 
-mul-size : tie.Need-mul-size
-mul-size c = omega (arith, few-rules (stands (c .before .before)))
+asked-requires : tie.Need-asked-requires
+asked-requires c κs = search needs
+
+rules-of-requires : tie.Need-rules-of-requires
+rules-of-requires c κs = few-rules (stands (c .before))
 
 value-requires : tie.Need-value-requires
 value-requires c κs = search needs
@@ -71,10 +61,12 @@ returns c =
 
 returns-2 : tie.Need-returns-2
 returns-2 c =
-    let joined = c .before .before .before .before in
-    let a = joined .before .before .before .before .before .before .args in
-    decided-file (stands (joined .before)) (a .of-target) (a .flow) (joined .if1 .list) _ _ _ (c .decided .result)
-    (asked joined) refl (c .before .before .value .ensures) (c .before .value2 .ensures) (c .decided .ensures)
+    let rules = c .before .before .before in
+    let asked = rules .before in
+    let told = asked .before in
+    let a = told .before .before .before .before .before .args in
+    decided-file (stands told) (a .of-target) (asked .asked .ensures) (rules .rules-of .ensures) (c .before .before .value .ensures)
+    (c .before .value2 .ensures) (a .flow) (c .decided .result) (c .decided .ensures)
 
 pub decide-spec : {M : Type 1} → statement M
 decide-spec =
@@ -83,7 +75,8 @@ decide-spec =
     read-requires
     enum-known-found
     enum-known-found-2
-    mul-size
+    asked-requires
+    rules-of-requires
     value-requires
     cast-decided
     value-requires-2
