@@ -1,5 +1,6 @@
-/* Calls every function of the library on inputs whose answers stand in document 01: its examples and the rows of its tables. The inputs are
- * made here by hand. Prints what differs and the number of checks. */
+/* Calls every function of the library on inputs whose answers stand in docs/FORMAT.md: its examples and the rows of its tables. The inputs are
+ * made here by hand, with numbers of this file's own and not by the header's names, so that a wrong name shows; check_names holds the names to
+ * them. Prints what differs and the number of checks. */
 #include <stdio.h>
 #include <string.h>
 
@@ -84,7 +85,7 @@ static void catalogue(size_t count) {
     for (size_t k = 0; k < count; k++) field(1, rules + k * PAGEORIOLE_RULE, PAGEORIOLE_RULE);
 }
 
-/* Document 01's first example: I = 0 1 2 3, T = 1 0 4 3, five rules. */
+/* The first example: I = 0 1 2 3, T = 1 0 4 3, five rules. */
 #define FIVE rules, (size_t)(5 * PAGEORIOLE_RULE)
 #define THREE rules, (size_t)(3 * PAGEORIOLE_RULE)
 #define TWO rules, (size_t)(2 * PAGEORIOLE_RULE)
@@ -173,6 +174,23 @@ static void check_decide_file(void) {
     told("decide by a rule that denies", pageoriole_decide_file(FILE_MADE, true, 3, 0, 0, 0, 0, ANSWER), PAGEORIOLE_DONE, VALUES(0, 4));
     told("decide by the default", pageoriole_decide_file(FILE_MADE, true, 2, 0, 0, 0, 0, ANSWER), PAGEORIOLE_DONE, VALUES(0, 0));
     told("decide in a file turned away", pageoriole_decide_file(made, 160, true, 2, 0, 0, 0, 0, ANSWER), PAGEORIOLE_CUT, VALUES(150));
+}
+
+/* Records of flows that differ in their protocols alone. */
+#define ZEROS 0, 0, 0, 0, 0, 0, 0, 0, 0, 0, 0, 0
+#define FLOWS_432 BYTES(4, ZEROS, 3, ZEROS, 2, ZEROS)
+
+static void check_decide_flows_file(void) {
+    first_example();
+    told("flows by the target", pageoriole_decide_flows_file(FILE_MADE, true, FLOWS_432, PLACE, ANSWER), PAGEORIOLE_DONE, VALUES(9));
+    holds("flows by the target", BYTES(1, 0, 3, 0, 0, 4, 0, 0, 0));
+    told("flows by the initial policy", pageoriole_decide_flows_file(FILE_MADE, false, FLOWS_432, PLACE, ANSWER), PAGEORIOLE_DONE, VALUES(9));
+    holds("flows by the initial policy", BYTES(0, 0, 0, 0, 0, 4, 1, 0, 3));
+    told("no flow", pageoriole_decide_flows_file(FILE_MADE, true, NOTHING, NOTHING, ANSWER), PAGEORIOLE_DONE, VALUES(0));
+    told("flows in a file turned away", pageoriole_decide_flows_file(made, 160, true, BYTES(4), NOTHING, ANSWER), PAGEORIOLE_CUT, VALUES(150));
+    told("flows 4", pageoriole_decide_flows_file(FILE_MADE, true, BYTES(4, ZEROS, 3), NOTHING, ANSWER), PAGEORIOLE_LENGTH, VALUES(0));
+    told("flows 13", pageoriole_decide_flows_file(FILE_MADE, true, FLOWS_432, place, 8, ANSWER), PAGEORIOLE_ROOM, VALUES(9));
+    holds("flows 13", NOTHING);
 }
 
 static void check_replay_file(void) {
@@ -299,44 +317,67 @@ static void check_write(void) {
     holds("write 11", NOTHING);
 }
 
-typedef uint32_t decider(const uint8_t *, size_t, const uint8_t *, size_t, uint8_t, uint32_t, uint16_t, uint32_t, uint16_t, uint64_t *, size_t);
-
 /* One rule whose five ranges differ: protocol 6, source 10.0.0.0 to 10.0.0.255, port 258 to 515, destination 20.1.0.0 to 20.1.0.1, port 1027. */
 #define ONE_RULE BYTES(1, 6, 6, 10, 0, 0, 0, 10, 0, 0, 255, 1, 2, 2, 3, 20, 1, 0, 0, 20, 1, 0, 1, 4, 3, 4, 3)
 #define ALONE BYTES(0, 0)
 #define TEN 0x0a000000u
 #define TWENTY 0x14010000u
+/* It is the only one of its policy, so the place of a flow that it permits is 1. */
+static const struct {
+    uint8_t protocol;
+    uint32_t source;
+    uint16_t source_port;
+    uint32_t destination;
+    uint16_t destination_port;
+    uint8_t action;
+} flows[] = {{6, TEN, 258, TWENTY, 1027, 1},       {6, TEN + 255, 515, TWENTY + 1, 1027, 1}, {7, TEN, 258, TWENTY, 1027, 0},
+             {6, TEN + 256, 258, TWENTY, 1027, 0}, {6, TEN, 257, TWENTY, 1027, 0},           {6, TEN, 516, TWENTY, 1027, 0},
+             {6, TEN, 258, TWENTY + 2, 1027, 0},   {6, TEN, 258, TWENTY, 1026, 0}};
+enum { FLOWS = sizeof flows / sizeof *flows };
 
-static void check_decide(const char *what, decider *decide) {
-    static const struct {
-        uint8_t protocol;
-        uint32_t source;
-        uint16_t source_port;
-        uint32_t destination;
-        uint16_t destination_port;
-        uint64_t action;
-    } flows[] = {{6, TEN, 258, TWENTY, 1027, 1},       {6, TEN + 255, 515, TWENTY + 1, 1027, 1}, {7, TEN, 258, TWENTY, 1027, 0},
-                 {6, TEN + 256, 258, TWENTY, 1027, 0}, {6, TEN, 257, TWENTY, 1027, 0},           {6, TEN, 516, TWENTY, 1027, 0},
-                 {6, TEN, 258, TWENTY + 2, 1027, 0},   {6, TEN, 258, TWENTY, 1026, 0}};
-    for (size_t k = 0; k < sizeof flows / sizeof *flows; k++) {
-            told(what,
-             decide(ONE_RULE, ALONE, flows[k].protocol, flows[k].source, flows[k].source_port, flows[k].destination, flows[k].destination_port, ANSWER),
+/* Permits every flow to destination port 0. */
+#define PORT_ZERO BYTES(1, 0, 255, 0, 0, 0, 0, 255, 255, 255, 255, 0, 0, 255, 255, 0, 0, 0, 0, 255, 255, 255, 255, 0, 0, 0, 0)
+
+static void check_decide(void) {
+    for (size_t k = 0; k < FLOWS; k++) {
+        told("decide",
+             pageoriole_decide(ONE_RULE, ALONE, flows[k].protocol, flows[k].source, flows[k].source_port, flows[k].destination,
+                               flows[k].destination_port, ANSWER),
              PAGEORIOLE_DONE, VALUES(flows[k].action, flows[k].action));
     }
-    told(what, decide(FIVE, T1, 4, 0, 0, 0, 0, ANSWER), PAGEORIOLE_DONE, VALUES(1, 3));
-    told(what, decide(FIVE, NOTHING, 4, 0, 0, 0, 0, ANSWER), PAGEORIOLE_DONE, VALUES(0, 0));
-    told(what,
-         decide(BYTES(1, 0, 255, 0, 0, 0, 0, 255, 255, 255, 255, 0, 0, 255, 255, 0, 0, 0, 0, 255, 255, 255, 255, 0, 0, 0, 0), ALONE, 47, TEN, 0,
-                TWENTY, 0, ANSWER),
-         PAGEORIOLE_DONE, VALUES(1, 1));
-}
-
-static void check_decide_values(void) {
-    check_decide("decide", pageoriole_decide);
-    check_decide("decide, accepted before", pageoriole_decide_accepted);
+    told("decide by the third", pageoriole_decide(FIVE, T1, 4, 0, 0, 0, 0, ANSWER), PAGEORIOLE_DONE, VALUES(1, 3));
+    told("decide by no rule", pageoriole_decide(FIVE, NOTHING, 4, 0, 0, 0, 0, ANSWER), PAGEORIOLE_DONE, VALUES(0, 0));
+    told("decide, protocol 47", pageoriole_decide(PORT_ZERO, ALONE, 47, TEN, 0, TWENTY, 0, ANSWER), PAGEORIOLE_DONE, VALUES(1, 1));
     told("decide 8", pageoriole_decide(FIVE, BYTES(0, 5), 0, 0, 0, 0, 0, ANSWER), PAGEORIOLE_OUTSIDE, VALUES(0));
     told("decide 4", pageoriole_decide(rules, 26, ALONE, 0, 0, 0, 0, 0, ANSWER), PAGEORIOLE_LENGTH, VALUES(0));
-    told("decide, a number outside", pageoriole_decide_accepted(FIVE, BYTES(0, 5, 0, 0), 0, 0, 0, 0, 0, ANSWER), PAGEORIOLE_DONE, VALUES(1, 2));
+}
+
+static void put_record(uint8_t *record, size_t k) {
+    const uint32_t words[] = {flows[k].source, flows[k].source_port, flows[k].destination, flows[k].destination_port};
+    const unsigned widths[] = {4, 2, 4, 2};
+    *record++ = flows[k].protocol;
+    for (size_t n = 0; n < 4; n++)
+        for (unsigned b = widths[n]; b > 0; b--) *record++ = (uint8_t)(words[n] >> 8 * (b - 1));
+}
+
+static void check_decide_flows(void) {
+    static uint8_t made_flows[FLOWS * 13], wanted[FLOWS * 3];
+    for (size_t k = 0; k < FLOWS; k++) {
+        put_record(made_flows + 13 * k, k);
+        wanted[3 * k] = wanted[3 * k + 2] = flows[k].action;
+    }
+    told("flows", pageoriole_decide_flows(ONE_RULE, ALONE, made_flows, sizeof made_flows, PLACE, ANSWER), PAGEORIOLE_DONE, VALUES(3 * FLOWS));
+    holds("flows", wanted, sizeof wanted);
+    told("flows by five rules", pageoriole_decide_flows(FIVE, T1, FLOWS_432, PLACE, ANSWER), PAGEORIOLE_DONE, VALUES(9));
+    holds("flows by five rules", BYTES(1, 0, 3, 0, 0, 4, 0, 0, 0));
+    told("no flow", pageoriole_decide_flows(FIVE, T1, NOTHING, PLACE, ANSWER), PAGEORIOLE_DONE, VALUES(0));
+    holds("no flow", NOTHING);
+    turned("flows 8", pageoriole_decide_flows(FIVE, BYTES(0, 5), BYTES(4), NOTHING, ANSWER), PAGEORIOLE_OUTSIDE);
+    turned("flows 4, rules", pageoriole_decide_flows(rules, 26, ALONE, FLOWS_432, PLACE, ANSWER), PAGEORIOLE_LENGTH);
+    turned("flows 4", pageoriole_decide_flows(FIVE, T1, BYTES(ZEROS), NOTHING, ANSWER), PAGEORIOLE_LENGTH);
+    holds("flows 4", NOTHING);
+    told("flows 13", pageoriole_decide_flows(FIVE, T1, FLOWS_432, place, 8, ANSWER), PAGEORIOLE_ROOM, VALUES(9));
+    holds("flows 13", NOTHING);
 }
 
 static void check_replay(void) {
@@ -399,20 +440,112 @@ static void check_judge(void) {
     told("judge 4", pageoriole_judge(THREE, I3, T3, ABSENT, NOTHING, ANSWER), PAGEORIOLE_LENGTH, VALUES(0));
 }
 
+/* ---- what the header adds to the functions ---- */
+
+static struct pageoriole_values three_values(void) {
+    static const uint8_t initial[] = {0, 0, 0, 1, 0, 2}, target[] = {0, 2, 0, 0, 0, 1}, keep[] = {0, 0, 0, 1};
+    struct pageoriole_values v = {.rules = rules, .rules_size = 3 * 27, .initial = initial, .initial_size = 6, .target = target,
+                                  .target_size = 6, .has_keep = true, .keep = keep, .keep_size = 4};
+    return v;
+}
+
+/* The functions on one struct, in the third example: its plans are taken as the script and judged. */
+static void check_struct(void) {
+    static uint8_t field_one[64], field_two[64];
+    struct pageoriole_values v = three_values();
+    passes("struct, check", pageoriole_check_values(&v, ANSWER));
+    turned("struct, judge without a script", pageoriole_judge_values(&v, ANSWER), PAGEORIOLE_LENGTH);
+    turned("struct, replay without a script", pageoriole_replay_values(&v, PLACE, ANSWER), PAGEORIOLE_LENGTH);
+    told("struct, plan one", pageoriole_plan_one_values(&v, field_one, sizeof field_one, ANSWER), PAGEORIOLE_DONE, VALUES(1, 4, 24));
+    told("struct, plan two", pageoriole_plan_two_values(&v, field_two, sizeof field_two, ANSWER), PAGEORIOLE_DONE, VALUES(2, 1, 9));
+    pageoriole_take_script(&v, field_two, 9);
+    told("struct, judge 32", pageoriole_judge_values(&v, ANSWER), PAGEORIOLE_SAFE, NULL, 0);
+    told("struct, replay", pageoriole_replay_values(&v, PLACE, ANSWER), PAGEORIOLE_DONE, VALUES(6));
+    holds("struct, replay", T3);
+    told("struct, write", pageoriole_write_values(&v, PLACE, ANSWER), PAGEORIOLE_DONE, VALUES(124));
+    catalogue(3);
+    field(2, I3);
+    field(3, T3);
+    field(4, BYTES(0, 0, 0, 1));
+    field(5, BYTES(2, 5, 0, 3, 0, 1));
+    holds("struct, write", FILE_MADE);
+    pageoriole_take_script(&v, field_one, 24);
+    told("struct, judge 31", pageoriole_judge_values(&v, ANSWER), PAGEORIOLE_NOT_FULL, NULL, 0);
+    pageoriole_take_script(&v, field_one, 2);
+    turned("struct, a field cut off", pageoriole_check_values(&v, ANSWER), PAGEORIOLE_LENGTH);
+    v.has_script = false;
+    passes("struct, no script", pageoriole_check_values(&v, ANSWER));
+    v.keep_size = 3;
+    turned("struct, check 4", pageoriole_check_values(&v, ANSWER), PAGEORIOLE_LENGTH);
+    v.has_keep = false;
+    passes("struct, no keep list", pageoriole_check_values(&v, ANSWER));
+}
+
+/* The rule of ONE_RULE by the names of its bytes. */
+static void put_one_rule(uint8_t *rule) {
+    pageoriole_put(rule + PAGEORIOLE_RULE_ACTION, PAGEORIOLE_ACTION_WIDTH, PAGEORIOLE_PERMIT);
+    pageoriole_put(rule + PAGEORIOLE_RULE_PROTOCOL_LOW, PAGEORIOLE_PROTOCOL_WIDTH, 6);
+    pageoriole_put(rule + PAGEORIOLE_RULE_PROTOCOL_HIGH, PAGEORIOLE_PROTOCOL_WIDTH, 6);
+    pageoriole_put(rule + PAGEORIOLE_RULE_SOURCE_LOW, PAGEORIOLE_ADDRESS_WIDTH, TEN);
+    pageoriole_put(rule + PAGEORIOLE_RULE_SOURCE_HIGH, PAGEORIOLE_ADDRESS_WIDTH, TEN + 255);
+    pageoriole_put(rule + PAGEORIOLE_RULE_SOURCE_PORT_LOW, PAGEORIOLE_PORT_WIDTH, 258);
+    pageoriole_put(rule + PAGEORIOLE_RULE_SOURCE_PORT_HIGH, PAGEORIOLE_PORT_WIDTH, 515);
+    pageoriole_put(rule + PAGEORIOLE_RULE_DESTINATION_LOW, PAGEORIOLE_ADDRESS_WIDTH, TWENTY);
+    pageoriole_put(rule + PAGEORIOLE_RULE_DESTINATION_HIGH, PAGEORIOLE_ADDRESS_WIDTH, TWENTY + 1);
+    pageoriole_put(rule + PAGEORIOLE_RULE_DESTINATION_PORT_LOW, PAGEORIOLE_PORT_WIDTH, 1027);
+    pageoriole_put(rule + PAGEORIOLE_RULE_DESTINATION_PORT_HIGH, PAGEORIOLE_PORT_WIDTH, 1027);
+}
+
+/* The second of the flows by the names of its bytes. */
+static void put_one_flow(uint8_t *flow) {
+    pageoriole_put(flow + PAGEORIOLE_FLOW_PROTOCOL, PAGEORIOLE_PROTOCOL_WIDTH, 6);
+    pageoriole_put(flow + PAGEORIOLE_FLOW_SOURCE, PAGEORIOLE_ADDRESS_WIDTH, TEN + 255);
+    pageoriole_put(flow + PAGEORIOLE_FLOW_SOURCE_PORT, PAGEORIOLE_PORT_WIDTH, 515);
+    pageoriole_put(flow + PAGEORIOLE_FLOW_DESTINATION, PAGEORIOLE_ADDRESS_WIDTH, TWENTY + 1);
+    pageoriole_put(flow + PAGEORIOLE_FLOW_DESTINATION_PORT, PAGEORIOLE_PORT_WIDTH, 1027);
+}
+
+/* The names of the header against bytes made by hand. */
+static void check_names(void) {
+    const uint8_t decision[] = {1, 2, 3};
+    uint8_t record[13];
+    ready();
+    put_one_rule(place);
+    holds("a rule by names", ONE_RULE);
+    ready();
+    put_one_flow(place);
+    put_record(record, 1);
+    holds("a flow by names", record, sizeof record);
+    expect("a decision by names", "the action", pageoriole_get(decision + PAGEORIOLE_DECISION_ACTION, PAGEORIOLE_ACTION_WIDTH), 1);
+    expect("a decision by names", "the place", pageoriole_get(decision + PAGEORIOLE_DECISION_PLACE, PAGEORIOLE_PLACE_WIDTH), 515);
+    expect("values", "of 13", pageoriole_values_of(13), 1);
+    expect("values", "of 30", pageoriole_values_of(30), 2);
+    expect("values", "of 32", pageoriole_values_of(32), 0);
+    expect("turned away", "by 13", pageoriole_turned_away(13), true);
+    expect("turned away", "by 0", pageoriole_turned_away(0), false);
+    expect("turned away", "by 20", pageoriole_turned_away(20), false);
+    expect("sentences", "of 0", pageoriole_says(0)[0], 'd');
+    expect("sentences", "of 25 and 26 differing", pageoriole_says(25) != pageoriole_says(26), false);
+}
+
 int main(void) {
     make_rules();
     check_read();
     check_decide_file();
+    check_decide_flows_file();
     check_replay_file();
     check_plan_file();
     check_judge_file();
     check_text();
     check_check();
     check_write();
-    check_decide_values();
+    check_decide();
+    check_decide_flows();
     check_replay();
     check_plan();
     check_judge();
+    check_struct();
+    check_names();
     printf("%u checks, %u wrong\n", checks, wrong);
     return wrong == 0 ? 0 : 1;
 }

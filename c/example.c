@@ -8,22 +8,19 @@ static uint8_t file[PAGEORIOLE_FILE + 1];
 static uint8_t place[PAGEORIOLE_PLAN];
 static uint64_t answer[PAGEORIOLE_ANSWER];
 
-enum { FIELD_HEAD = 3, TYPE_BYTE = 1, COMMAND = 5, LIST_NUMBER = 2 };
-
 typedef uint32_t planner(const uint8_t *, size_t, uint8_t *, size_t, uint64_t *, size_t);
 
-static unsigned two(const uint8_t *bytes) { return bytes[0] * 256u + bytes[1]; }
-
-static void print_refusal(uint32_t number) { printf("refused %u at %llu\n", number, (unsigned long long)answer[0]); }
+static void print_refusal(uint32_t number) { printf("refused %u at %llu\n", number, (unsigned long long)answer[PAGEORIOLE_REFUSED_AT]); }
 
 static void print_command(size_t step, const uint8_t *command) {
-    unsigned one = two(command + 1), other = two(command + 3);
-    switch (command[0]) {
-    case 1: printf("%zu app %u\n", step, one); break;
-    case 2: printf("%zu del %u\n", step, one); break;
-    case 3: printf("%zu ins %u %u\n", step, one, other); break;
-    case 4: printf("%zu del %u\n", step, one); break;
-    case 5: printf("%zu mov %u %u\n", step, one, other); break;
+    unsigned one = pageoriole_get(command + PAGEORIOLE_COMMAND_ONE, PAGEORIOLE_LISTED_WIDTH);
+    unsigned two = pageoriole_get(command + PAGEORIOLE_COMMAND_TWO, PAGEORIOLE_LISTED_WIDTH);
+    switch (command[PAGEORIOLE_COMMAND_CODE]) {
+    case PAGEORIOLE_APP: printf("%zu app %u\n", step, one); break;
+    case PAGEORIOLE_DEL_RULE: printf("%zu del %u\n", step, one); break;
+    case PAGEORIOLE_INS: printf("%zu ins %u %u\n", step, one, two); break;
+    case PAGEORIOLE_DEL_PLACE: printf("%zu del %u\n", step, one); break;
+    case PAGEORIOLE_MOV: printf("%zu mov %u %u\n", step, one, two); break;
     }
 }
 
@@ -33,29 +30,20 @@ static void print_plan(planner *plan, size_t size, size_t initial, size_t target
         print_refusal(number);
         return;
     }
-    size_t kept = answer[0], commands = answer[1];
-    printf("type %u initial %zu target %zu kept %zu commands %zu\n", place[FIELD_HEAD], initial, target, kept, commands);
-    for (size_t k = 0; k < commands; k++) print_command(k + 1, place + FIELD_HEAD + TYPE_BYTE + COMMAND * k);
-}
-
-/* How many values belong to a fault or a verdict. */
-static int values_of(uint32_t number) {
-    switch (number) {
-    case PAGEORIOLE_UNORDERED: return 2;
-    case PAGEORIOLE_NOT_FULL:
-    case PAGEORIOLE_SAFE: return 0;
-    default: return 1;
-    }
+    size_t kept = answer[PAGEORIOLE_PLANNED_KEPT], commands = answer[PAGEORIOLE_PLANNED_COMMANDS];
+    const uint8_t *script = place + PAGEORIOLE_HEAD;
+    printf("type %u initial %zu target %zu kept %zu commands %zu\n", script[0], initial, target, kept, commands);
+    for (size_t k = 0; k < commands; k++) print_command(k + 1, script + PAGEORIOLE_TYPE + PAGEORIOLE_COMMAND * k);
 }
 
 static void print_verdict(size_t size) {
     uint32_t number = pageoriole_judge_file(file, size, answer, PAGEORIOLE_ANSWER);
-    if (number <= PAGEORIOLE_ROOM) {
+    if (pageoriole_turned_away(number)) {
         print_refusal(number);
         return;
     }
     printf("verdict %u", number);
-    for (int k = 0; k < values_of(number); k++) printf(" %llu", (unsigned long long)answer[k]);
+    for (size_t k = 0; k < pageoriole_values_of(number); k++) printf(" %llu", (unsigned long long)answer[k]);
     printf("\n");
 }
 
@@ -72,7 +60,8 @@ int main(int count, char **words) {
         print_refusal(number);
         return 1;
     }
-    size_t initial = answer[2] / LIST_NUMBER, target = answer[4] / LIST_NUMBER;
+    size_t initial = answer[PAGEORIOLE_READ_INITIAL_SIZE] / PAGEORIOLE_LISTED_WIDTH;
+    size_t target = answer[PAGEORIOLE_READ_TARGET_SIZE] / PAGEORIOLE_LISTED_WIDTH;
     print_plan(pageoriole_plan_one_file, size, initial, target);
     print_plan(pageoriole_plan_two_file, size, initial, target);
     print_verdict(size);

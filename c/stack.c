@@ -7,10 +7,17 @@
 
 #include "pageoriole.h"
 
-enum { STACK = 1024 * 1024, PAINT = 0xa5, LIST = 2 * PAGEORIOLE_LISTED, SCRIPT = 1 + 5 * PAGEORIOLE_COMMANDS };
+enum {
+    STACK = 1024 * 1024,
+    PAINT = 0xa5,
+    LIST = PAGEORIOLE_LISTED_WIDTH * PAGEORIOLE_LISTED,
+    SCRIPT = PAGEORIOLE_TYPE + PAGEORIOLE_COMMAND * PAGEORIOLE_COMMANDS,
+    FLOWS = 1000 /* as many as are decided in one call here; the stack doesn't depend on it */
+};
 
 static _Alignas(16) uint8_t stack[STACK];
 static uint8_t rules[PAGEORIOLE_RULES * PAGEORIOLE_RULE];
+static uint8_t flows[FLOWS * PAGEORIOLE_FLOW];
 static uint8_t place[PAGEORIOLE_TEXT];
 static uint64_t answer[PAGEORIOLE_ANSWER];
 
@@ -25,61 +32,57 @@ static struct input disjoint, reversed, same;
 static const struct input *now;
 
 static void put_number(uint8_t *list, size_t k, size_t n) {
-    list[2 * k] = (uint8_t)(n / 256);
-    list[2 * k + 1] = (uint8_t)(n % 256);
+    pageoriole_put(list + PAGEORIOLE_LISTED_WIDTH * k, PAGEORIOLE_LISTED_WIDTH, (uint32_t)n);
 }
 
 static void put_command(uint8_t *script, size_t k, uint8_t code, size_t one, size_t two) {
-    uint8_t *command = script + 1 + 5 * k;
-    command[0] = code;
-    put_number(command + 1, 0, one);
-    put_number(command + 3, 0, two);
+    uint8_t *command = script + PAGEORIOLE_TYPE + PAGEORIOLE_COMMAND * k;
+    command[PAGEORIOLE_COMMAND_CODE] = code;
+    put_number(command + PAGEORIOLE_COMMAND_ONE, 0, one);
+    put_number(command + PAGEORIOLE_COMMAND_TWO, 0, two);
 }
 
-/* Full ranges that differ in their last byte but one, so that two rules are compared to the end. */
+/* Rules that differ in the low of their destination port alone, so that two are compared to the end. */
 static void make_rules(void) {
     for (size_t k = 0; k < PAGEORIOLE_RULES; k++) {
         uint8_t *rule = rules + k * PAGEORIOLE_RULE;
         memset(rule, 0, PAGEORIOLE_RULE);
-        rule[0] = 1;
-        memset(rule + 25, 255, 2);
-        put_number(rule + 23, 0, k);
+        rule[PAGEORIOLE_RULE_ACTION] = PAGEORIOLE_PERMIT;
+        memset(rule + PAGEORIOLE_RULE_DESTINATION_PORT_HIGH, 255, PAGEORIOLE_PORT_WIDTH);
+        pageoriole_put(rule + PAGEORIOLE_RULE_DESTINATION_PORT_LOW, PAGEORIOLE_PORT_WIDTH, (uint32_t)k);
     }
 }
 
 static void make_file(struct input *in) {
     pageoriole_write(rules, sizeof rules, in->initial, LIST, in->target, LIST, in->has_keep, in->keep, in->keep_size, true, in->script, SCRIPT,
                      in->file, sizeof in->file, answer, PAGEORIOLE_ANSWER);
-    in->file_size = answer[0];
+    in->file_size = answer[PAGEORIOLE_WRITTEN_BYTES];
 }
-
-/* Commands by their codes. */
-enum { APP = 1, DEL_RULE = 2, INS = 3, DEL_PLACE = 4, MOV = 5 };
 
 /* Deletes the initial rules, appends the target's, and then its last one again and again: ordered, not full. */
 static void disjoint_command(size_t k) {
     if (k < PAGEORIOLE_LISTED)
-        put_command(disjoint.script, k, DEL_RULE, PAGEORIOLE_LISTED - 1 - k, 0);
+        put_command(disjoint.script, k, PAGEORIOLE_DEL_RULE, PAGEORIOLE_LISTED - 1 - k, 0);
     else if (k < PAGEORIOLE_RULES)
-        put_command(disjoint.script, k, APP, k, 0);
+        put_command(disjoint.script, k, PAGEORIOLE_APP, k, 0);
     else
-        put_command(disjoint.script, k, k % 2 ? APP : DEL_RULE, PAGEORIOLE_RULES - 1, 0);
+        put_command(disjoint.script, k, k % 2 ? PAGEORIOLE_APP : PAGEORIOLE_DEL_RULE, PAGEORIOLE_RULES - 1, 0);
 }
 
 /* Moves the last rule to the first place, to the second and so on, then nothing: safe. */
 static void reversed_command(size_t k) {
     size_t to = k + 1 < PAGEORIOLE_LISTED ? k + 1 : PAGEORIOLE_LISTED;
-    put_command(reversed.script, k, MOV, PAGEORIOLE_LISTED, to);
+    put_command(reversed.script, k, PAGEORIOLE_MOV, PAGEORIOLE_LISTED, to);
 }
 
 /* Inserts the other rules in front and deletes them, then moves the first rule to the end: a list of 1,024 rules, and lists that aren't ordered. */
 static void same_command(size_t k) {
     if (k < PAGEORIOLE_LISTED)
-        put_command(same.script, k, INS, 1, PAGEORIOLE_LISTED + k);
+        put_command(same.script, k, PAGEORIOLE_INS, 1, PAGEORIOLE_LISTED + k);
     else if (k < PAGEORIOLE_RULES)
-        put_command(same.script, k, DEL_PLACE, 1, 0);
+        put_command(same.script, k, PAGEORIOLE_DEL_PLACE, 1, 0);
     else
-        put_command(same.script, k, MOV, 1, PAGEORIOLE_LISTED);
+        put_command(same.script, k, PAGEORIOLE_MOV, 1, PAGEORIOLE_LISTED);
 }
 
 static void make_inputs(void) {
@@ -94,8 +97,8 @@ static void make_inputs(void) {
     }
     reversed.has_keep = same.has_keep = true;
     same.keep_size = LIST;
-    disjoint.script[0] = 1;
-    reversed.script[0] = same.script[0] = 2;
+    disjoint.script[0] = PAGEORIOLE_APPEND_DELETE;
+    reversed.script[0] = same.script[0] = PAGEORIOLE_INSERT_DELETE_MOVE;
     for (size_t k = 0; k < PAGEORIOLE_COMMANDS; k++) {
         disjoint_command(k);
         reversed_command(k);
@@ -113,6 +116,7 @@ static void make_inputs(void) {
 #define SCRIPT_NOW now->script, (size_t)SCRIPT
 #define PLACE place, sizeof place
 #define FLOW 17, 0, 0, 0, 0
+#define FLOWS_MADE flows, sizeof flows
 
 static uint32_t number;
 
@@ -122,7 +126,8 @@ static void check(void) { number = pageoriole_check(VALUES, true, SCRIPT_NOW, AN
 static void write(void) { number = pageoriole_write(VALUES, true, SCRIPT_NOW, PLACE, ANSWER); }
 static void decide_file(void) { number = pageoriole_decide_file(FILE_NOW, true, FLOW, ANSWER); }
 static void decide(void) { number = pageoriole_decide(RULES, now->target, LIST, FLOW, ANSWER); }
-static void decide_accepted(void) { number = pageoriole_decide_accepted(RULES, now->target, LIST, FLOW, ANSWER); }
+static void flows_file(void) { number = pageoriole_decide_flows_file(FILE_NOW, true, FLOWS_MADE, PLACE, ANSWER); }
+static void flows_lists(void) { number = pageoriole_decide_flows(RULES, now->target, LIST, FLOWS_MADE, PLACE, ANSWER); }
 static void replay_file(void) { number = pageoriole_replay_file(FILE_NOW, PLACE, ANSWER); }
 static void replay(void) { number = pageoriole_replay(RULES, now->initial, LIST, SCRIPT_NOW, PLACE, ANSWER); }
 static void plan_one_file(void) { number = pageoriole_plan_one_file(FILE_NOW, PLACE, ANSWER); }
@@ -162,7 +167,8 @@ int main(void) {
                  {"pageoriole_write", write, PAGEORIOLE_STACK},
                  {"pageoriole_decide_file", decide_file, PAGEORIOLE_STACK},
                  {"pageoriole_decide", decide, PAGEORIOLE_STACK},
-                 {"pageoriole_decide_accepted", decide_accepted, PAGEORIOLE_STACK},
+                 {"pageoriole_decide_flows_file", flows_file, PAGEORIOLE_STACK},
+                 {"pageoriole_decide_flows", flows_lists, PAGEORIOLE_STACK},
                  {"pageoriole_replay_file", replay_file, PAGEORIOLE_STACK},
                  {"pageoriole_replay", replay, PAGEORIOLE_STACK},
                  {"pageoriole_plan_one_file", plan_one_file, PAGEORIOLE_STACK},
@@ -185,7 +191,7 @@ int main(void) {
             accepted = accepted && (number == PAGEORIOLE_DONE || number > PAGEORIOLE_ELSEWHERE);
             if (here > deepest) deepest = here;
         }
-        printf("%-26s %6zu bytes of %zu\n", calls[k].name, deepest, calls[k].most);
+        printf("%-28s %6zu bytes of %zu\n", calls[k].name, deepest, calls[k].most);
         within = within && deepest <= calls[k].most;
     }
     if (!accepted) printf("an input was turned away\n");

@@ -20,6 +20,69 @@ usage: second planlist < FILE
        second bench [--only TEXT]
 ";
 
+/// Words that a command doesn't take.
+#[derive(Debug)]
+struct Misused(String);
+
+impl std::fmt::Display for Misused {
+    fn fmt(&self, to: &mut std::fmt::Formatter) -> std::fmt::Result {
+        write!(to, "{}\n{}", self.0, USAGE.trim_end())
+    }
+}
+
+impl Error for Misused {}
+
+/// What a command takes: words without a name, options that have a value, options that have none.
+struct Takes(usize, &'static [&'static str], &'static [&'static str]);
+
+fn taken(name: &str) -> Option<Takes> {
+    Some(match name {
+        "planlist" | "judgelist" => Takes(0, &[], &[]),
+        "vectors" | "cases" => Takes(1, &[], &[]),
+        "brute" => Takes(0, &["--rules"], &[]),
+        "inputs" => Takes(0, &["--seed", "--count", "--dir"], &[]),
+        "compare" => Takes(0, &["--seed", "--count", "--planlist", "--judgelist"], &["--library"]),
+        "bench" => Takes(0, &["--only"], &[]),
+        _ => return None,
+    })
+}
+
+/// Whether a command takes these words: no other, and none too few.
+fn check_words(name: &str, arguments: &[String]) -> Result<(), Misused> {
+    let Takes(words, valued, plain) = taken(name).ok_or_else(|| Misused(format!("there is no command {name}")))?;
+    let (mut found, mut rest) = (0, arguments.iter());
+    while let Some(argument) = rest.next() {
+        if valued.contains(&argument.as_str()) {
+            rest.next().ok_or_else(|| Misused(format!("{argument} takes a value")))?;
+        } else if !plain.contains(&argument.as_str()) {
+            found += 1;
+            if found > words || argument.starts_with("--") {
+                return Err(Misused(format!("{name} doesn't take {argument}")));
+            }
+        }
+    }
+    if found < words {
+        return Err(Misused(format!("{name} takes a folder")));
+    }
+    Ok(())
+}
+
+/// A reader that goes away, as `head` does, ends the program without a word.
+/// Not where programs are compared: those are written to, and may stop reading.
+#[cfg(unix)]
+fn end_quietly_at_a_closed_pipe() {
+    const SIGPIPE: i32 = 13;
+    const DEFAULT: usize = 0;
+    extern "C" {
+        fn signal(number: i32, action: usize) -> usize;
+    }
+    // SAFETY: no other thread runs yet, and no handler is replaced.
+    unsafe { signal(SIGPIPE, DEFAULT) };
+}
+
+#[cfg(not(unix))]
+fn end_quietly_at_a_closed_pipe() {}
+
 /// The value after `--name`, if it is given.
 fn option<'a>(arguments: &'a [String], name: &str) -> Option<&'a str> {
     let at = arguments.iter().position(|argument| argument == name)?;
@@ -28,7 +91,7 @@ fn option<'a>(arguments: &'a [String], name: &str) -> Option<&'a str> {
 
 fn number(arguments: &[String], name: &str, otherwise: u64) -> Result<u64, Box<dyn Error>> {
     match option(arguments, name) {
-        Some(digits) => digits.parse().map_err(|_| format!("{name} takes a number").into()),
+        Some(digits) => digits.parse().map_err(|_| Misused(format!("{name} takes a number")).into()),
         None => Ok(otherwise),
     }
 }
@@ -41,12 +104,11 @@ fn print_text(text_of: fn(&[u8]) -> String) -> Outcome {
 }
 
 fn in_folder(arguments: &[String], run: fn(&Path) -> io::Result<bool>) -> Outcome {
-    let folder = arguments.first().ok_or(USAGE)?;
-    Ok(run(Path::new(folder))?)
+    Ok(run(Path::new(&arguments[0]))?)
 }
 
 fn write_inputs(arguments: &[String]) -> Outcome {
-    let folder = Path::new(option(arguments, "--dir").ok_or(USAGE)?);
+    let folder = Path::new(option(arguments, "--dir").ok_or_else(|| Misused("inputs takes --dir".into()))?);
     let seed = number(arguments, "--seed", 1)?;
     std::fs::create_dir_all(folder)?;
     for index in 0..number(arguments, "--count", 100)? {
@@ -88,7 +150,7 @@ fn other_side(arguments: &[String]) -> Result<compare::Other, Box<dyn Error>> {
         (Some(planlist), Some(judgelist)) if !library => {
             Ok(compare::Other::Programs(compare::Programs::new(planlist, judgelist)))
         }
-        _ => Err("either --library, or --planlist and --judgelist together".into()),
+        _ => Err(Misused("either --library, or --planlist and --judgelist together".into()).into()),
     }
 }
 
@@ -98,7 +160,11 @@ fn run_compare(arguments: &[String]) -> Outcome {
 }
 
 fn run(arguments: &[String]) -> Outcome {
-    let (name, rest) = arguments.split_first().ok_or(USAGE)?;
+    let (name, rest) = arguments.split_first().ok_or_else(|| Misused("a command is missing".into()))?;
+    check_words(name, rest)?;
+    if option(rest, "--planlist").is_none() {
+        end_quietly_at_a_closed_pipe();
+    }
     match name.as_str() {
         "planlist" => print_text(text::plan_text),
         "judgelist" => print_text(text::judge_text),
@@ -107,8 +173,7 @@ fn run(arguments: &[String]) -> Outcome {
         "inputs" => write_inputs(rest),
         "compare" => run_compare(rest),
         "cases" => in_folder(rest, cases::run),
-        "bench" => run_bench(rest),
-        _ => Err(USAGE.into()),
+        _ => run_bench(rest),
     }
 }
 
@@ -119,6 +184,9 @@ fn main() -> ExitCode {
         Ok(false) => ExitCode::FAILURE,
         Err(error) => {
             eprintln!("{error}");
+            if error.is::<Misused>() {
+                return ExitCode::from(2);
+            }
             ExitCode::FAILURE
         }
     }
