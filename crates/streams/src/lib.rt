@@ -1,8 +1,10 @@
 // Standard input read whole, and text printed: what the programs do with descriptors, and nothing else.
 
 ghost use mathlib.Core.Path.{_≡_};
-ghost use lib.ListN.{take};
+ghost use lib.ListN.{length, take};
+ghost use Rattle.streams.specs.Reading.{Fitting, Within, pieceOf};
 use deployment::Written;
+use libc::STDERR_FILENO;
 use libc::STDIN_FILENO;
 use libc::STDOUT_FILENO;
 
@@ -12,17 +14,53 @@ pub enum Input {
     Unreadable,
 }
 
-// Reads standard input to its end, or as far as the place goes. A read that fails is told from the end of the input by trying once more.
-pub fn read_input(place: &mut [u8]) -> Input {
-    let n = io::read_full(STDIN_FILENO, place);
-    if n < place.len() {
-        let mut next = [0u8; 1];
-        let more = libc::read(STDIN_FILENO, &mut next);
-        if more != 0 {
-            return Input::Unreadable;
+// What one read tells: so many bytes came, the input has ended, or the read failed (also one that a signal interrupts).
+enum Piece {
+    Bytes(usize),
+    End,
+    Failed,
+}
+
+// What a read into a part tells by its answer.
+fn piece_of(answer: isize, part: &[u8]) -> Piece
+    ensures { λ r. ⌜ r ≡ pieceOf answer (length (now (part .entry))) ⌝ }
+{
+    if answer < 0 {
+        return Piece::Failed;
+    }
+    let n = io::count(answer, part);
+    if n == 0 {
+        return Piece::End;
+    }
+    Piece::Bytes(n)
+}
+
+// One read into the place, from `done` on.
+fn read_piece(place: &mut [u8], done: usize) -> Piece
+    ensures { λ r. ⌜ Fitting r done (length (now (place .exit))) ⌝ }
+{
+    if place.len() < done {
+        return Piece::End;
+    }
+    let answer = libc::read(STDIN_FILENO, &mut place[done..]);
+    piece_of(answer, &place[done..])
+}
+
+// Reads standard input to its end, or as far as the place goes, in as many pieces as it comes in. The first read that fails makes all of it unreadable.
+pub fn read_input(place: &mut [u8]) -> Input
+    ensures { λ r. ⌜ Within r (length (now (place .exit))) ⌝ }
+{
+    let size = place.len();
+    let mut done = 0;
+    while done < size {
+        let piece = read_piece(place, done);
+        match piece {
+            Piece::Bytes(n) => done += n,
+            Piece::End => break,
+            Piece::Failed => return Input::Unreadable,
         }
     }
-    Input::Bytes(n)
+    Input::Bytes(done)
 }
 
 // The first n bytes of a place; all of it where it is shorter.
@@ -35,14 +73,21 @@ pub fn first<'a>(place: &'a [u8], n: usize) -> &'a [u8]
     &place[0..n]
 }
 
+// Prints a text whole, or says on standard error that it isn't: a text that is cut off can read as another.
+fn print_whole(text: &[u8]) {
+    if !io::write_all(STDOUT_FILENO, text) {
+        io::write_all(STDERR_FILENO, b"cannot write the answer\n");
+    }
+}
+
 // Prints the text that was written into the place.
 pub fn print(place: &[u8], written: Written) {
     if let Written::Bytes(n) = written {
-        io::write_all(STDOUT_FILENO, first(place, n));
+        print_whole(first(place, n));
     }
 }
 
 // The one answer to input that can't be read.
 pub fn print_unreadable() {
-    io::write_all(STDOUT_FILENO, b"unreadable input\n");
+    print_whole(b"unreadable input\n");
 }
