@@ -1,7 +1,9 @@
 -- `app` gives what the definition gives: each refusal follows from the tests on the way, and the new list is the old one's slots with one
 -- more filled. Assumes nothing.
-use mathlib.Core.Path.{_∙_}
+use mathlib.Core.Path.{_≡_, _∙_}
+use mathlib.Core.Bool.{true}
 use borrow.Author.Tests.{lt-ltb, le-ltb, eq-eqb, ne-eqb}
+use lib.Dec.{eqb}
 use Rattle.running.specs.Running.{view, appended, roomy}
 use Rattle.running.proofs.Slots.{field-length}
 use Rattle.running.proofs.Edits.{fails, goes, gives, view-count, shows-appended}
@@ -18,6 +20,10 @@ refused-requires c κs = search needs
 returns : tie.Need-returns
 unfolding appended
 returns c = c .refused .ensures ∙ fails _ _ _ (le-ltb _ _ (c .before .if1 .taken))
+
+-- the second test passed: r stands nowhere
+nowhere : (c : tie.Else2) → eqb (c .before .before .before .args .place) 0 ≡ true
+nowhere c = eq-eqb _ _ (c .if2 .left)
 
 refused-requires-2 : tie.Need-refused-requires-2
 refused-requires-2 c κs = search needs
@@ -37,7 +43,7 @@ unfolding appended roomy
 returns-3 c =
     c .refused3 .ensures
     ∙ fails _ _ _ (le-ltb _ _ (rw (c .before .before .before .before .count .ensures) at (c .before .if3 .taken)))
-    ∙ goes _ _ _ (eq-eqb _ _ (c .before .before .if2 .left))
+    ∙ goes _ _ _ (nowhere (c .before .before))
     ∙ goes _ _ _ (lt-ltb _ _ (c .before .before .before .if1 .left))
 
 mul-rules : tie.Need-mul-rules
@@ -64,7 +70,7 @@ returns-4 c =
     (shows-appended (counted .result) (start .args .r) (self .rules) (view self) (view-count self (counted .result) (counted .ensures))
     (rw (field-length 1024 (self .rules) (start .good .0 .1 .1 .0 .1 .0 .1)) room))
     ∙ goes _ _ _ (lt-ltb _ _ (rw (counted .ensures) at room))
-    ∙ goes _ _ _ (eq-eqb _ _ (c .before .before .before .if2 .left))
+    ∙ goes _ _ _ (nowhere (c .before .before .before))
     ∙ goes _ _ _ (lt-ltb _ _ (c .before .before .before .before .if1 .left))
 
 pub app-spec : {M : Type 1} → statement M

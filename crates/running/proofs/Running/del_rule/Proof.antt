@@ -27,6 +27,10 @@ returns c = c .refused .ensures ∙ fails _ _ _ (le-ltb _ _ (c .before .if1 .tak
 in-range-requires : tie.Need-in-range-requires
 in-range-requires c κs = search needs
 
+-- the test passed: a place of the list, and a slot of the array
+within-list : (c : tie.Else2) → within (c .before .before .before .before .args .place) (length (view (c .before .before .before .before .args .self))) ≡ true
+within-list c = in-range _ (c .before .in-range .ensures) (c .before .before .before .count .ensures) (c .if2 .left)
+
 refused-requires-2 : tie.Need-refused-requires-2
 refused-requires-2 c κs = search needs
 
@@ -37,10 +41,6 @@ returns-2 c =
     c .refused2 .ensures
     ∙ fails _ _ _ (out-of-range _ (at .in-range .ensures) (at .before .before .count .ensures) (c .before .if2 .taken))
     ∙ goes _ _ _ (lt-ltb _ _ (at .before .if1 .left))
-
--- the test passed: a place of the list, and a slot of the array
-within-list : (c : tie.Else2) → within (c .before .before .before .before .args .place) (length (view (c .before .before .before .before .args .self))) ≡ true
-within-list c = in-range _ (c .before .in-range .ensures) (c .before .before .before .count .ensures) (c .if2 .left)
 
 bounds : (c : tie.Else2) →
     (0 < c .before .before .before .before .args .place)

@@ -7,8 +7,9 @@ use mathlib.Core.Path.{_≡_, _∙_, ap}
 use mathlib.Core.Bool.{true}
 use borrow.Author.Tests.{lt-ltb, le-ltb, eq-eqb, ne-eqb}
 use lib.ListN.{length}
-use Rattle.policy.specs.Command.{within}
-use Rattle.running.specs.Running.{view, inserted, roomy}
+use Rattle.policy.specs.Command.{within, failed}
+use Rattle.policy.specs.declared.Fault.the-variants.{Number}
+use Rattle.running.specs.Running.{view, shown, given, inserted, roomy}
 use Rattle.running.proofs.Slots.{field-length}
 use Rattle.running.proofs.Edits.{fails, goes, gives, out-of-range, in-range, within-bounds, view-count, view-fits, shows-placed}
 use borrow.Author.Needs.{needs}
@@ -21,9 +22,12 @@ count-requires c κs = search needs
 refused-requires : tie.Need-refused-requires
 refused-requires c κs = search needs
 
+-- the first refusal is 23
 returns : tie.Need-returns
 unfolding inserted
-returns c = c .refused .ensures ∙ fails _ _ _ (le-ltb _ _ (c .before .if1 .taken))
+returns c =
+    let first : shown (c .refused .result) ≡ given _ (failed Number) = c .refused .ensures in
+    first ∙ fails _ _ _ (le-ltb _ _ (c .before .if1 .taken))
 
 add-in-range : tie.Need-add-in-range
 add-in-range c =

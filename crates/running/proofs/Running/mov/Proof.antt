@@ -39,16 +39,16 @@ refused-requires-2 c κs = search needs
 from-list : (c : tie.Else1) → within (c .before .before .before .args .i) (length (view (c .before .before .before .args .self))) ≡ true
 from-list c = in-range _ (c .before .in-range .ensures) (c .before .before .count .ensures) (c .if1 .left)
 
+-- the second test passed
+to-list : (c : tie.Else2) → within (c .before .before .before .before .before .args .j) (length (view (c .before .before .before .before .before .args .self))) ≡ true
+to-list c = in-range _ (c .before .in-range2 .ensures) (c .before .before .before .before .count .ensures) (c .if2 .left)
+
 returns-2 : tie.Need-returns-2
 unfolding relocated
 returns-2 c =
     let at = c .before .before in
     c .refused2 .ensures
     ∙ fails _ _ _ (rw (from-list (at .before), out-of-range _ (at .in-range2 .ensures) (at .before .before .before .count .ensures) (c .before .if2 .taken)))
-
--- the second test passed
-to-list : (c : tie.Else2) → within (c .before .before .before .before .before .args .j) (length (view (c .before .before .before .before .before .args .self))) ≡ true
-to-list c = in-range _ (c .before .in-range2 .ensures) (c .before .before .before .before .count .ensures) (c .if2 .left)
 
 from : (c : tie.Else2) →
     (0 < c .before .before .before .before .before .args .i)
@@ -67,6 +67,19 @@ to c =
     let start = c .before .before .before .before .before in
     let slots = field-length 1024 (start .args .self .rules) (start .good .0 .1 .1 .0 .1 .0 .1) in
     place-bounds (start .args .self) _ _ slots (c .before .before .before .before .count .ensures) (to-list c)
+
+returns-3 : tie.Need-returns-3
+unfolding relocated
+returns-3 c =
+    let at = c .before .before .before .before in
+    let counted = at .before .before .before .before .count in
+    let start = at .before .before .before .before .before in
+    let self = start .args .self in
+    c .changed .ensures
+    ∙ gives _ (view self)
+    (shows-moved (counted .result) (start .args .i) (start .args .j) (self .rules) (c .before .before .closed .result) (c .before .opened .result)
+    (view self) (view-count self _ (counted .ensures)) (from at .0) (from at .1) (to at .1) (c .before .before .closed .ensures) (c .before .opened .ensures))
+    ∙ goes _ _ _ (rw (from-list (at .before .before), to-list at))
 
 sub-r : tie.Need-sub-r
 sub-r c = from (c .before) .0
@@ -94,19 +107,6 @@ opened-requires c κs = omega (arith, from (c .before .before), to (c .before .b
 
 changed-requires : tie.Need-changed-requires
 changed-requires c κs = search needs
-
-returns-3 : tie.Need-returns-3
-unfolding relocated
-returns-3 c =
-    let at = c .before .before .before .before in
-    let counted = at .before .before .before .before .count in
-    let start = at .before .before .before .before .before in
-    let self = start .args .self in
-    c .changed .ensures
-    ∙ gives _ (view self)
-    (shows-moved (counted .result) (start .args .i) (start .args .j) (self .rules) (c .before .before .closed .result) (c .before .opened .result)
-    (view self) (view-count self _ (counted .ensures)) (from at .0) (from at .1) (to at .1) (c .before .before .closed .ensures) (c .before .opened .ensures))
-    ∙ goes _ _ _ (rw (from-list (at .before .before), to-list at))
 
 pub mov-spec : {M : Type 1} → statement M
 mov-spec =
