@@ -1,5 +1,6 @@
 pub mod SideBySide
 pub mod Policies
+pub mod Naming
 pub mod Scripts
 pub mod Rules
 pub mod Marking

@@ -3,3 +3,4 @@ pub mod Answers
 pub mod Marks
 pub mod Steps
 pub mod Claims
+pub mod Naming

@@ -34,8 +34,8 @@ replay-by-number κ a r e p =
     (replayed-by-number (a .0) (now (a .1 .0)) (now (a .1 .1 .0)))
 
 -- by number: one command on a sound state
-pub step-by-its-number : (κ : _) (a : _) (s : Stepped) (e : _) → step.Post κ a s e
+pub step-of-sound : (κ : _) (a : _) (s : Stepped) (e : _) → step.Post κ a s e
     → Sound (a .1 .0) (view (a .0 .list)) (a .0 .places .of) → ByNumber (a .1 .0) (view (a .0 .list)) (a .1 .1 .0) ((leftBy s) .shown)
-step-by-its-number κ a s e p sound =
+step-of-sound κ a s e p sound =
     subst (λ (left : StepLeft). ByNumber (a .1 .0) (view (a .0 .list)) (a .1 .1 .0) (left .shown)) (sym p)
     (step-by-number (a .1 .0) (view (a .0 .list)) (a .0 .places .of) (a .1 .1 .0) sound)

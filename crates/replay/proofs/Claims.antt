@@ -16,7 +16,7 @@ use Rattle.policy.proofs.Commands.{fails-with}
 use Rattle.policy.proofs.Replay.{replay-is-leads, breaks-replays, replays-breaks}
 use Rattle.running.specs.Running.{given}
 use Rattle.running.specs.Claims.{ByNumber}
-use Rattle.running.proofs.Numbers.{given-by-number}
+use Rattle.running.proofs.Claims.{given-by-number}
 use Rattle.deployment.specs.Checked.{Checked, good, bad, whyNumber}
 use Rattle.deployment.specs.Values.{Script}
 use Rattle.deployment.specs.FieldValues.{policyValue, scriptValue}

@@ -6,7 +6,7 @@ use mathlib.Core.Path.{_≡_, refl, sym, _∙_, ap}
 use mathlib.Core.Bool.{Bool, true, false, not, _&&_}
 use mathlib.Core.Logic.{⊎-elim}
 use mathlib.Core.List.{List, [], _∷_, _++_, List·Memᴰ·cases-cons}
-use borrow.Author.Tests.{ltb-true, lt-ltb, le-leb, eq-eqb, ne-eqb}
+use borrow.Author.Tests.{ltb-true, lt-ltb}
 use lib.Dec.{eqb, ltb}
 use lib.ListN.{length, drop, getD}
 use Rattle.policy.specs.Lists.{mem, without}
@@ -16,7 +16,7 @@ use Rattle.policy.specs.declared.Command.{Command}
 use Rattle.policy.specs.declared.Command.the-variants.{App, DelRule, Ins, DelPlace, Mov}
 use Rattle.policy.specs.declared.Fault.{Fault}
 use Rattle.policy.specs.declared.Fault.the-variants.{Present, Absent, Place, Number}
-use Rattle.policy.proofs.Tests.{byTest, never, and-both, both-and, not-true}
+use Rattle.policy.proofs.Tests.{byTest, and-both, not-true}
 use Rattle.policy.proofs.Lists.{mem-in, not-mem}
 use Rattle.policy.proofs.Commands.{passes-makes, makes-policy}
 use Rattle.policy.proofs.Counting.{inside-length}
@@ -24,9 +24,8 @@ use Rattle.running.specs.Running.{Shown, view, given, roomy, appended, ruleDele
 use Rattle.running.specs.Places.{placeIn, renumbered, Says}
 use Rattle.running.specs.declared.Refusing.the-variants.{Nothing, Failed}
 use Rattle.running.proofs.Edits.{within-bounds}
+use Rattle.running.proofs.Claims.{absent-test, takes-out}
 use Rattle.running.proofs.Says.{
-  place-zero,
-  absent-place,
   place-within,
   place-rule,
   place-lifted,
@@ -37,21 +36,6 @@ use Rattle.running.proofs.Says.{
 }
 use Rattle.replay.specs.Stepping.{stepShown, cleared, changedFrom, placesAfter, StepLeft, settled, stepLeft, leftBy, Sound}
 use Rattle.replay.specs.declared.Stepped.{Stepped}
-
--- The tests of the code on a rule's place against the definitions' tests on the list.
-absent-test : (r : ℕ) (l : List ℕ) → eqb (placeIn r l) 0 ≡ not (mem r l)
-absent-test r l =
-    byTest (mem r l)
-    (λ t. rw t (ne-eqb (placeIn r l) 0 (λ e. never t (place-zero r l e))))
-    (λ f. rw f (eq-eqb (placeIn r l) 0 (absent-place r l f)))
-
-present-test : (r : ℕ) (l : List ℕ) → within (placeIn r l) (length l) ≡ mem r l
-unfolding within
-present-test r l =
-    byTest (mem r l)
-    (λ t. let bounds = place-within r l (mem-in r l t) in
-    rw t (both-and (le-leb 1 (placeIn r l) (bounds .0)) (le-leb (placeIn r l) (length l) (bounds .1))))
-    (λ f. rw (f, absent-place r l f))
 
 -- a test that passed on the way to a list, and what was left
 needs-passed : (b : Bool) (fault : Fault) (rest : Outcome) (m : List ℕ) → needs b fault rest ≡ passed m → (b ≡ true) × (rest ≡ passed m)
@@ -84,18 +68,15 @@ module _ (size : ℕ) (l places : List ℕ) (sound : Sound size l places) where
       rw (array-says r inside, absent-test r l)
       (byTest (mem r l) (λ t. rw t) (λ f. rw f (has-room r (passed m) inside f)))
 
-  takes-out : (r : ℕ) → r < size
+  takes-it-out : (r : ℕ) → r < size
       → needs (within (getD places r 0) (length l)) Absent (passed (lifted (getD places r 0) l)) ≡ needs (mem r l) Absent (passed (without r l))
-  unfolding needs
-  takes-out r inside =
-      rw (array-says r inside, present-test r l)
-      (byTest (mem r l) (λ t. rw t (ap passed (place-lifted r l (mem-in r l t)))) (λ f. rw f))
+  takes-it-out r inside = rw (array-says r inside) (takes-out r l)
 
   -- what a step shows
   pub step-shows : (c : Command) → stepShown size l places c ≡ given l (step size l c)
   unfolding stepShown step needs appended ruleDeleted inserted placeDeleted relocated
   step-shows (App r) = ap (given l) (byTest (ltb r size) (λ t. rw t (adds r (l ++ (r ∷ [])) (ltb-true r size t))) (λ f. rw f))
-  step-shows (DelRule r) = ap (given l) (byTest (ltb r size) (λ t. rw t (takes-out r (ltb-true r size t))) (λ f. rw f))
+  step-shows (DelRule r) = ap (given l) (byTest (ltb r size) (λ t. rw t (takes-it-out r (ltb-true r size t))) (λ f. rw f))
   step-shows (Ins i r) =
       ap (given l)
       (byTest (ltb r size)

@@ -1,17 +1,21 @@
 -- "Each public entry promises one answer for each input": any two answers that a method's contract allows show the same. A list shows its first
 -- `len` slots, and what lies behind them is nobody's; numbers, namings and side arrays are equal outright. Each follows from the contract as
--- the checker reads it, so a weaker contract breaks it. `del_place` and `mov` refuse by number what the table says. Assumes nothing.
-use Prim.Native.Nat.{ℕ}
+-- the checker reads it, so a weaker contract breaks it. Each editing
+-- method refuses by number what the table says, where the place that it is told is the rule's. Assumes nothing.
+use Prim.Native.Nat.{ℕ, _<_}
 use mathlib.Core.Path.{_≡_, sym, _∙_, ap, subst}
 use mathlib.Core.List.{List}
+use lib.ListN.{length}
 use Rattle.running.specs.declared.Running.{Running}
 use Rattle.running.specs.declared.Edited.{Edited}
 use Rattle.running.specs.declared.Naming.{Naming}
 use Rattle.running.specs.declared.Places.{Places}
-use Rattle.policy.specs.declared.Command.the-variants.{DelPlace, Mov}
-use Rattle.running.specs.Running.{view, shown}
+use Rattle.policy.specs.declared.Command.the-variants.{App, DelRule, Ins, DelPlace, Mov}
+use Rattle.policy.specs.Policy.{most-rules}
+use Rattle.running.specs.Running.{view, shown, appended, ruleDeleted, inserted}
+use Rattle.running.specs.Places.{placeIn}
 use Rattle.running.specs.Claims.{ByNumber}
-use Rattle.running.proofs.Numbers.{place-deleted-by-number, relocated-by-number}
+use Rattle.running.proofs.Claims.{place-deleted-by-number, relocated-by-number, rule-deleted-by-number, appended-by-number, inserted-by-number}
 use Rattle.running.proofs.Running.empty.Reads as empty
 use Rattle.running.proofs.Running.count.Reads as count
 use Rattle.running.proofs.Running.app.Reads as app
@@ -69,7 +73,7 @@ one-numbered κ a r s e f p q = same-places r s (p ∙ sym q)
 pub one-place-of : (κ : _) (a : _) (r s : ℕ) (e f : _) → place-of.Post κ a r e → place-of.Post κ a s f → r ≡ s
 one-place-of κ a r s e f p q = p ∙ sym q
 
--- what `del_place` and `mov` give, by number
+-- what each edit gives, by number
 pub del-place-by-number : (κ : _) (a : _) (r : Edited) (e : _) → del-place.Post κ a r e
     → (size : ℕ) → ByNumber size (view (a .0)) (DelPlace (a .1 .0)) (shown r)
 del-place-by-number κ a r e p size =
@@ -79,3 +83,27 @@ pub mov-by-number : (κ : _) (a : _) (r : Edited) (e : _) → mov.Post κ a r e
     → (size : ℕ) → ByNumber size (view (a .0)) (Mov (a .1 .0) (a .1 .1 .0)) (shown r)
 mov-by-number κ a r e p size =
     subst (ByNumber size (view (a .0)) (Mov (a .1 .0) (a .1 .1 .0))) (sym p) (relocated-by-number size (view (a .0)) (a .1 .0) (a .1 .1 .0))
+
+pub del-rule-by-number : (κ : _) (a : _) (r : Edited) (e : _) → del-rule.Post κ a r e
+    → a .1 .1 .1 .0 ≡ placeIn (a .1 .1 .0) (view (a .0))
+    → ByNumber (a .1 .0) (view (a .0)) (DelRule (a .1 .1 .0)) (shown r)
+del-rule-by-number κ a r e p told =
+    subst (ByNumber (a .1 .0) (view (a .0)) (DelRule (a .1 .1 .0)))
+    (sym (p ∙ ap (ruleDeleted (a .1 .0) (view (a .0)) (a .1 .1 .0)) told))
+    (rule-deleted-by-number (a .1 .0) (view (a .0)) (a .1 .1 .0))
+
+pub app-by-number : (κ : _) (a : _) (r : Edited) (e : _) → app.Post κ a r e
+    → a .1 .1 .1 .0 ≡ placeIn (a .1 .1 .0) (view (a .0)) → length (view (a .0)) < most-rules
+    → ByNumber (a .1 .0) (view (a .0)) (App (a .1 .1 .0)) (shown r)
+app-by-number κ a r e p told free =
+    subst (ByNumber (a .1 .0) (view (a .0)) (App (a .1 .1 .0)))
+    (sym (p ∙ ap (appended (a .1 .0) (view (a .0)) (a .1 .1 .0)) told))
+    (appended-by-number (a .1 .0) (view (a .0)) (a .1 .1 .0) free)
+
+pub ins-by-number : (κ : _) (a : _) (r : Edited) (e : _) → ins.Post κ a r e
+    → a .1 .1 .1 .1 .0 ≡ placeIn (a .1 .1 .1 .0) (view (a .0)) → length (view (a .0)) < most-rules
+    → ByNumber (a .1 .0) (view (a .0)) (Ins (a .1 .1 .0) (a .1 .1 .1 .0)) (shown r)
+ins-by-number κ a r e p told free =
+    subst (ByNumber (a .1 .0) (view (a .0)) (Ins (a .1 .1 .0) (a .1 .1 .1 .0)))
+    (sym (p ∙ ap (inserted (a .1 .0) (view (a .0)) (a .1 .1 .0) (a .1 .1 .1 .0)) told))
+    (inserted-by-number (a .1 .0) (view (a .0)) (a .1 .1 .0) (a .1 .1 .1 .0) free)

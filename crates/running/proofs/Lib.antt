@@ -3,5 +3,5 @@ pub mod Edits
 pub mod Numbering
 pub mod Names
 pub mod Says
-pub mod Numbers
+pub mod Claims
 pub mod Answers

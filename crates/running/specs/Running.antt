@@ -6,7 +6,7 @@ use mathlib.Core.List.{List, [], _∷_, _++_}
 use lib.ListN.{length, take}
 use lib.Dec.{eqb, ltb}
 use Rattle.policy.specs.Policy.{most-rules}
-use Rattle.policy.specs.Command.{Outcome, passed, failed, needs, within, lifted, placed, moved, faultNumber}
+use Rattle.policy.specs.Command.{faultNumber, Outcome, passed, failed, needs, within, lifted, placed, moved}
 use Rattle.policy.specs.declared.Fault.the-variants.{Present, Absent, Place, Number}
 use Rattle.running.specs.declared.Running.{Running}
 use Rattle.running.specs.declared.Edited.{Edited}
