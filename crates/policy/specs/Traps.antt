@@ -43,7 +43,8 @@ PermissionSafe = SafeIn Permit
 abbrev pub OnlyTheirs : List ℕ → List ℕ → List ℕ → Type 0
 OnlyTheirs initial target l = (r : ℕ) → In r l → In r initial ⊎ In r target
 
--- Theorem 1 (b): "two rules in I or T or both, such that r2 always appears after r1, then r2 appears after r1 in R"
+-- Theorem 1 (b): "two rules in I or T or both, such that r2 always appears after r1, then r2 appears after r1 in R"; its proof
+-- speaks of rules that "simultaneously appear in R"
 abbrev pub KeepsPairs : List ℕ → List ℕ → List ℕ → Type 0
 KeepsPairs initial target l =
     (a b : ℕ) → Precedes a b initial ⊎ Precedes a b target → ¬ Precedes b a initial → ¬ Precedes b a target
