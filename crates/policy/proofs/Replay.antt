@@ -9,7 +9,7 @@ use mathlib.Core.List.{List, [], _∷_, _++_, append-nil}
 use borrow.Author.Tests.{ltb-true, ltb-false}
 use lib.Dec.{ltb}
 use lib.ListN.{length, take, getD}
-use Rattle.policy.specs.Command.{faultNumber}
+use Rattle.policy.specs.Command.{Outcome, passed, failed, step, faultNumber}
 use Rattle.policy.specs.Replay.{ended, broken, replayFrom, replay, lists}
 use Rattle.policy.specs.Properties.{Distinct, Makes, Leads, After}
 use Rattle.policy.specs.Claims.{Policy, ReplayIsLeads, ListsAreAfter, BreaksAt, RunningListFits}
@@ -19,6 +19,7 @@ use Rattle.policy.specs.declared.Fault.{Fault}
 use Rattle.policy.proofs.Tests.{byTest}
 use Rattle.policy.proofs.Counting.{inside-length}
 use Rattle.policy.proofs.Way.{Steps}
+use Rattle.policy.proofs.Commands.{passes-makes}
 use Rattle.policy.proofs.Commands.{makes-or-fails, makes-passes, fails-failed, makes-unique, makes-distinct, makes-policy}
 
 -- Where a script leads, or where it breaks: one of the two holds, and the definition of a replay answers what holds.
@@ -117,19 +118,20 @@ lists-are-after size l (c ∷ script) (suc k) m h =
     let at = lists-are-after size x script k m (record { reached = le-of-suc-le-suc (h .reached); leads = rest }) in
     rw (makes-passes size l c x made) (omega (arith, at .0), at .1)
 
+by-outcome {ℓ} : {A : Type ℓ} (o : Outcome) → ((m : List ℕ) → o ≡ passed m → A) → ((fault : Fault) → o ≡ failed fault → A) → A
+by-outcome (passed m) pass fail = pass m refl
+by-outcome (failed fault) pass fail = fail fault refl
+
 pub each-list-is-after : EachListIsAfter
 unfolding lists
 each-list-is-after size l [] zero inside = record { reached = zero-le; leads = refl }
 each-list-is-after size l [] (suc k) inside = absurd (not-suc-le-zero (le-of-suc-le-suc inside))
 each-list-is-after size l (c ∷ script) zero inside = record { reached = zero-le; leads = refl }
 each-list-is-after size l (c ∷ script) (suc k) inside =
-    ⊎-elim
-    (λ h. let (m, made) = h in
-    let passes = makes-passes size l c m made in
-    let later = each-list-is-after size m script k (le-of-suc-le-suc (rw passes at inside)) in
-    rw passes record { reached = suc-le-suc (later .reached); leads = (m, made, later .leads) })
-    (λ h. absurd (not-suc-le-zero (le-of-suc-le-suc (rw (fails-failed size l c (h .0) (h .1)) at inside))))
-    (makes-or-fails size l c)
+    by-outcome (step size l c)
+    (λ m e. let later = each-list-is-after size m script k (le-of-suc-le-suc (rw e at inside)) in
+    rw e record { reached = suc-le-suc (later .reached); leads = (m, passes-makes size l c m e, later .leads) })
+    (λ fault e. absurd (not-suc-le-zero (le-of-suc-le-suc (rw e at inside))))
 
 pub lists-after : (size : ℕ) (l n : List ℕ) (script : List Command) → Leads size l script n
     → (k : ℕ) → k < length (lists size l script) → After size l script k (getD (lists size l script) k [])

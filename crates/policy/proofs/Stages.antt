@@ -1,5 +1,6 @@
--- What the two stages of the script for insert, delete and move are told with: parts of the script, and the front of the running
--- list, whose rules are settled or wait. `Passing` is what the first stage hands to the second. Assumes nothing.
+-- What the two stages of the script for insert, delete and move are told with: parts of the script, which touch no kept rule, and
+-- the front of the running list, whose rules are settled or wait; no kept rule waits. `Passing` is what the first stage hands to the
+-- second. Assumes nothing.
 use Prim.Native.Nat.{ℕ, suc, _+_}
 use native.Mathlib.Omega.{arith}
 use mathlib.Core.Path.{_≡_, refl, sym, _∙_, ap}

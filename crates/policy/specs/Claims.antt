@@ -39,8 +39,8 @@ pub record Accepted (size : ℕ) (initial target : List ℕ) (keep : Option (Lis
   pub last : Policy size target
   pub keepable : Keepable initial target keep
 
--- "go through the target in order and keep each common rule that stands in the initial policy after the last one kept": of the
--- target's rules, each that all those kept before it in the target stand before in the initial policy
+-- "go through the target in order and keep each common rule that stands in the initial policy after the last one kept": a rule of
+-- the target is kept exactly when it is in the initial policy and every rule kept before it stands before it there
 pub record OwnChoice (initial target chosen : List ℕ) : Type 0 where
   pub in-order : Sublistᴰ chosen target
   pub each : (r : ℕ) → In r target
@@ -67,9 +67,11 @@ Answers m l d =
     ((rule : ℕ) × FirstMatch m l (d .place) rule × (d .action ≡ m .action rule))
     ⊎ (NoMatch m l × (d .place ≡ 0) × (d .action ≡ m .default))
 
+-- A decision is the one answer that these words allow.
 abbrev pub DecisionIsFirstMatch : Type 0
 DecisionIsFirstMatch = (m : Matching) (l : List ℕ) (d : Decision) → (decide m l ≡ d) ↔ Answers m l d
 
+-- Its place is 0 exactly when no rule matches.
 abbrev pub PlaceZeroIsDefault : Type 0
 PlaceZeroIsDefault = (m : Matching) (l : List ℕ) → ((decide m l) .place ≡ 0) ↔ NoMatch m l
 

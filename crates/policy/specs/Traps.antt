@@ -25,8 +25,9 @@ pub record Deploys (Condition : List ℕ → Type 0) (size : ℕ) (initial targe
   pub ends : Leads size initial script target
   pub throughout : (k : ℕ) (l : List ℕ) → After size initial script k l → Condition l
 
--- 002, 3.3: a policy is safe in an action "iff every packet that A denies is also denied by B or C", or permits; a deployment is
--- "iff at every moment .. the running policy is". Packets are numbered, and each meets the same rules in its own way.
+-- 002, 3.3: a policy A is "denial-safe w.r.t. policies B and C iff every packet that A denies is also denied by B or C", and
+-- permission-safe likewise; a deployment is so "iff at every moment during the deployment the running policy is". Packets are
+-- numbered, and each meets the same rules in its own way.
 abbrev pub SafeIn : Action → (ℕ → Matching) → ℕ → List ℕ → List ℕ → List Command → Type 0
 SafeIn action packets size initial target script =
     (k : ℕ) (l : List ℕ) → After size initial script k l → (p : ℕ) → decided (packets p) l ≡ action
@@ -42,7 +43,8 @@ PermissionSafe = SafeIn Permit
 abbrev pub OnlyTheirs : List ℕ → List ℕ → List ℕ → Type 0
 OnlyTheirs initial target l = (r : ℕ) → In r l → In r initial ⊎ In r target
 
--- Theorem 1 (b): "two rules in I or T or both, such that r2 always appears after r1, then r2 appears after r1 in R"
+-- Theorem 1 (b): "two rules in I or T or both, such that r2 always appears after r1, then r2 appears after r1 in R"; its proof
+-- speaks of rules that "simultaneously appear in R"
 abbrev pub KeepsPairs : List ℕ → List ℕ → List ℕ → Type 0
 KeepsPairs initial target l =
     (a b : ℕ) → Precedes a b initial ⊎ Precedes a b target → ¬ Precedes b a initial → ¬ Precedes b a target
@@ -134,8 +136,8 @@ EndsAreNotEnough =
     × List·Memᴰ (1 ∷ []) (lists 8 (0 ∷ 1 ∷ []) out-and-in)
     × (decided (hitting denies-but-one) (1 ∷ []) ≡ Permit)
 
--- "A verdict of 30 says that safety isn't shown; such a script may still be safe": rules 0 and 1 change places and change back. For
--- every flow to which both rules say the same, each list on the way decides as the two policies do, which are one.
+-- "A verdict of 30 says that safety isn't shown; such a script may still be safe": rules 0 and 1 change places and change back. Where
+-- both rules say the same, each list on the way decides every flow as the two policies do, which are one list.
 abbrev pub there-and-back : List Command
 there-and-back = Mov 1 2 ∷ Mov 1 2 ∷ []
 
