@@ -82,9 +82,9 @@ not-both e = absurd (let z : _≡_ {A = ℕ} 0 1 = cc in omega arith)
 
 turned-with : (r : Refusal) (number at : ℕ) → TurnedWith (Turned r) number at ↔ ((whyNumber (r .why) ≡ number) × (r .at ≡ at))
 turned-with r number at = (
-      λ t. let same : t .0 ≡ r = cc in (ap (λ (s : Refusal). whyNumber (s .why)) (sym same) ∙ t .2, ap (λ (s : Refusal). s .at) (sym same) ∙ t .3),
-      λ h. (r, refl, h .0, h .1),
-    )
+  λ t. let same : t .0 ≡ r = cc in (ap (λ (s : Refusal). whyNumber (s .why)) (sym same) ∙ t .2, ap (λ (s : Refusal). s .at) (sym same) ∙ t .3),
+  λ h. (r, refl, h .0, h .1),
+)
 
 -- The refusals by their numbers, and what is written.
 pub flows-not-whole : FlowsNotWhole

@@ -368,11 +368,7 @@ fn decide_lists(case: &[u8], place: &mut [u8]) {
         place,
     );
     fill(place);
-    print_written(
-        b"flows by target ",
-        flows_lists(case, TARGET, place),
-        place,
-    );
+    print_written(b"flows by target ", flows_lists(case, TARGET, place), place);
 }
 
 // The lent place is the first bytes of a room that has as many as two bytes can say.

@@ -8,6 +8,7 @@ use Rattle.pageoriole.specs.Answers.{Told, Tells, Outcome, Leaves}
 use Rattle.pageoriole.proofs.files.pageoriole_read.Reads as read
 use Rattle.pageoriole.proofs.files.pageoriole_read_to_judge.Reads as read-to-judge
 use Rattle.pageoriole.proofs.files.pageoriole_decide_file.Reads as decide-file
+use Rattle.pageoriole.proofs.files.pageoriole_decide_flows_file.Reads as decide-flows-file
 use Rattle.pageoriole.proofs.files.pageoriole_replay_file.Reads as replay-file
 use Rattle.pageoriole.proofs.files.pageoriole_plan_one_file.Reads as plan-one-file
 use Rattle.pageoriole.proofs.files.pageoriole_plan_two_file.Reads as plan-two-file
@@ -17,7 +18,7 @@ use Rattle.pageoriole.proofs.files.pageoriole_judge_text.Reads as judge
 use Rattle.pageoriole.proofs.lists.pageoriole_check.Reads as check
 use Rattle.pageoriole.proofs.lists.pageoriole_write.Reads as write
 use Rattle.pageoriole.proofs.lists.pageoriole_decide.Reads as decide
-use Rattle.pageoriole.proofs.lists.pageoriole_decide_accepted.Reads as decide-accepted
+use Rattle.pageoriole.proofs.lists.pageoriole_decide_flows.Reads as decide-flows
 use Rattle.pageoriole.proofs.lists.pageoriole_replay.Reads as replay
 use Rattle.pageoriole.proofs.lists.pageoriole_plan_one.Reads as plan-one
 use Rattle.pageoriole.proofs.lists.pageoriole_plan_two.Reads as plan-two
@@ -43,6 +44,10 @@ one-read-to-judge κ a r s e f p q = one-told p q
 pub one-decide-file : (κ : _) (a : _) (r s : ℕ) (e f : _) → decide-file.Post κ a r e → decide-file.Post κ a s f
     → (r ≡ s) × (now (e .1 .1 .1 .1 .1 .1 .1 .0) ≡ now (f .1 .1 .1 .1 .1 .1 .1 .0))
 one-decide-file κ a r s e f p q = one-told p q
+
+pub one-decide-flows-file : (κ : _) (a : _) (r s : ℕ) (e f : _) → decide-flows-file.Post κ a r e → decide-flows-file.Post κ a s f
+    → (r ≡ s) × (now (e .1 .1 .1 .1 .0) ≡ now (f .1 .1 .1 .1 .0)) × (now (e .1 .1 .1 .0) ≡ now (f .1 .1 .1 .0))
+one-decide-flows-file κ a r s e f p q = one-left p q
 
 pub one-replay-file : (κ : _) (a : _) (r s : ℕ) (e f : _) → replay-file.Post κ a r e → replay-file.Post κ a s f
     → (r ≡ s) × (now (e .1 .1 .0) ≡ now (f .1 .1 .0)) × (now (e .1 .0) ≡ now (f .1 .0))
@@ -80,9 +85,9 @@ pub one-decide : (κ : _) (a : _) (r s : ℕ) (e f : _) → decide.Post κ a r e
     → (r ≡ s) × (now (e .1 .1 .1 .1 .1 .1 .1 .0) ≡ now (f .1 .1 .1 .1 .1 .1 .1 .0))
 one-decide κ a r s e f p q = one-told p q
 
-pub one-decide-accepted : (κ : _) (a : _) (r s : ℕ) (e f : _) → decide-accepted.Post κ a r e → decide-accepted.Post κ a s f
-    → (r ≡ s) × (now (e .1 .1 .1 .1 .1 .1 .1 .0) ≡ now (f .1 .1 .1 .1 .1 .1 .1 .0))
-one-decide-accepted κ a r s e f p q = one-told p q
+pub one-decide-flows : (κ : _) (a : _) (r s : ℕ) (e f : _) → decide-flows.Post κ a r e → decide-flows.Post κ a s f
+    → (r ≡ s) × (now (e .1 .1 .1 .1 .0) ≡ now (f .1 .1 .1 .1 .0)) × (now (e .1 .1 .1 .0) ≡ now (f .1 .1 .1 .0))
+one-decide-flows κ a r s e f p q = one-left p q
 
 pub one-replay : (κ : _) (a : _) (r s : ℕ) (e f : _) → replay.Post κ a r e → replay.Post κ a s f
     → (r ≡ s) × (now (e .1 .1 .1 .1 .0) ≡ now (f .1 .1 .1 .1 .0)) × (now (e .1 .1 .1 .0) ≡ now (f .1 .1 .1 .0))

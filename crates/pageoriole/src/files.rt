@@ -5,7 +5,7 @@ ghost use Rattle.deployment.specs.FieldValues.{writing};
 ghost use Rattle.reader.specs.Answers.{shown, fileRead};
 ghost use Rattle.planner.specs.Plans.{planned, madeOne, madeTwo};
 ghost use Rattle.judge.specs.Answers.{judgedReading};
-ghost use Rattle.entries.specs.Answers.{decidedReading, replayedReading};
+ghost use Rattle.entries.specs.Answers.{decidedReading, flowsReading, replayedReading};
 ghost use Rattle.listing.specs.Text.{planPrinted, judgePrinted};
 ghost use Rattle.pageoriole.specs.Answers.{Tells, Leaves, readTold, decidedTold, judgedTold, writeOutcome, replayOutcome, planOutcome, flowOf};
 use super::told::decided_told;
@@ -16,6 +16,7 @@ use super::told::read_told;
 use super::told::tell;
 use super::told::written_told;
 use entries::files::decide;
+use entries::files::decide_flows;
 use entries::files::judge;
 use entries::files::plan_one;
 use entries::files::plan_two;
@@ -73,6 +74,26 @@ pub extern "C" fn pageoriole_decide_file(
     };
     let found = decide(file, of_target, flow);
     let words = decided_told(found);
+    tell(words, answer)
+}
+
+// Decides flows by a policy of the file, read once: bytes of the answers, three for each flow of 13, which fill the first bytes of `place`.
+#[no_mangle]
+pub extern "C" fn pageoriole_decide_flows_file(
+    file: &[u8],
+    of_target: bool,
+    flows: &[u8],
+    place: &mut [u8],
+    answer: &mut [u64],
+) -> u32
+    ensures { λ n. ⌜
+        Leaves
+        (writeOutcome (flowsReading «of_target» (now (flows .entry)) (readFile (now (file .entry))) (now (place .entry))))
+        n (now (answer .entry)) (now (answer .exit)) (now (place .exit))
+        ⌝ }
+{
+    let found = decide_flows(file, of_target, flows, place);
+    let words = written_told(found);
     tell(words, answer)
 }
 

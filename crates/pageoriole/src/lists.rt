@@ -2,20 +2,16 @@
 // script are there if their `has_` says so.
 
 ghost use mathlib.Core.Bool.{true};
-ghost use Rattle.policy.specs.Policy.{decide, matching};
-ghost use Rattle.deployment.specs.Values.{numbersOf};
-ghost use Rattle.deployment.specs.Catalogue.{catalogueOf};
 ghost use Rattle.deployment.specs.FieldValues.{readValues, valuesRead};
 ghost use Rattle.reader.specs.Answers.{checking, valuesGiven};
 ghost use Rattle.writer.specs.Answers.{writtenValues};
 ghost use Rattle.planner.specs.Plans.{planned, madeOne, madeTwo};
 ghost use Rattle.judge.specs.Answers.{judgedReading};
-ghost use Rattle.entries.specs.Answers.{decidedValues, decidedAtZero, replayedValues, replayedAtZero};
+ghost use Rattle.entries.specs.Answers.{decidingValues, decidedValues, decidedAtZero, flowsAtZero, replayedValues, replayedAtZero};
 ghost use Rattle.pageoriole.specs.Answers.{
   Tells,
   Leaves,
   checkedTold,
-  decisionTold,
   decidedTold,
   judgedTold,
   writeOutcome,
@@ -25,24 +21,20 @@ ghost use Rattle.pageoriole.specs.Answers.{
 };
 use super::told::checked_told;
 use super::told::decided_told;
-use super::told::decision_told;
 use super::told::judged_told;
 use super::told::planned_told;
 use super::told::ran_told;
 use super::told::tell;
 use super::told::written_told;
-use decision::decided;
 use entries::lists::check;
 use entries::lists::decide;
+use entries::lists::decide_flows;
 use entries::lists::judge;
 use entries::lists::plan_one;
 use entries::lists::plan_two;
 use entries::lists::replay;
 use entries::lists::write;
 use policy::Flow;
-
-// No field's head stands before a rule of a field value.
-const NO_HEAD: u8 = 0;
 
 // Whether field values pass.
 #[no_mangle]
@@ -134,35 +126,23 @@ pub extern "C" fn pageoriole_decide(
     tell(words, answer)
 }
 
-// The same without the tests, for values that were accepted before. Of others: a number outside the catalogue matches nothing.
+// Decides flows by a policy, tested once: bytes of the answers, three for each flow of 13, which fill the first bytes of `place`.
 #[no_mangle]
-pub extern "C" fn pageoriole_decide_accepted(
+pub extern "C" fn pageoriole_decide_flows(
     rules: &[u8],
     policy: &[u8],
-    protocol: u8,
-    source: u32,
-    source_port: u16,
-    destination: u32,
-    destination_port: u16,
+    flows: &[u8],
+    place: &mut [u8],
     answer: &mut [u64],
 ) -> u32
     ensures { λ n. ⌜
-        Tells
-        (decisionTold (decide
-        (matching (catalogueOf 0 (now (rules .entry))) (flowOf protocol source «source_port» destination «destination_port»))
-        (numbersOf (now (policy .entry)))))
-        n (now (answer .entry)) (now (answer .exit))
+        Leaves
+        (writeOutcome (flowsAtZero (decidingValues (now (rules .entry)) (now (policy .entry))) (now (flows .entry)) (now (place .entry))))
+        n (now (answer .entry)) (now (answer .exit)) (now (place .exit))
         ⌝ }
 {
-    let flow = Flow {
-        protocol,
-        source,
-        source_port,
-        destination,
-        destination_port,
-    };
-    let found = decided(rules, NO_HEAD, policy, flow);
-    let words = decision_told(found);
+    let found = decide_flows(rules, policy, flows, place);
+    let words = written_told(found);
     tell(words, answer)
 }
 

@@ -154,7 +154,7 @@ fn action_number(action: Action) -> u64
     }
 }
 
-pub fn decision_told(d: Decision) -> Words
+fn decision_told(d: Decision) -> Words
     ensures { λ w. ⌜ shownWords w ≡ decisionTold d ⌝ }
 {
     let action = d.action;
