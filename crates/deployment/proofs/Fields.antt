@@ -34,7 +34,7 @@ use Rattle.policy.proofs.Tests.{never}
 use Rattle.policy.proofs.Lists.{mem-in, in-mem}
 use Rattle.deployment.specs.Checked.{Checked, good, bad, _>>=_, whyNumber}
 use Rattle.deployment.specs.Bytes.{joined}
-use Rattle.deployment.specs.Values.{Script, rule-bytes, ruleOf, ruleBytes, known, numbersOf, numbersBytes, scriptBytes}
+use Rattle.deployment.specs.Values.{Script, rule-bytes, ruleOf, ruleBytes, numbersOf, numbersBytes, scriptBytes}
 use Rattle.deployment.specs.Contents.{ruleRead, policyRead, keepRead, scriptRead}
 use Rattle.deployment.specs.File.{
   Fields,

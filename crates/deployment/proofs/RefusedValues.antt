@@ -4,7 +4,6 @@
 use Prim.Native.Nat.{ℕ, _*_, _/_, _%_, _≤_}
 use native.Mathlib.Omega.{arith}
 use mathlib.Core.Path.{_≡_, refl, sym, _∙_, ap, subst}
-use mathlib.Core.Bool.{true, false}
 use mathlib.Core.Logic.{⊎-elim}
 use mathlib.Core.List.{
   List,
@@ -31,7 +30,7 @@ use Rattle.policy.specs.Rule.{Rule}
 use Rattle.policy.proofs.Tests.{falsely, never}
 use Rattle.deployment.specs.Checked.{Checked, good, bad, _>>=_, whyNumber, refusalNumbers}
 use Rattle.deployment.specs.Bytes.{chunks}
-use Rattle.deployment.specs.Values.{Script, rule-bytes, ruleOf, numbersOf, listFits, scriptFits}
+use Rattle.deployment.specs.Values.{rule-bytes, ruleOf, numbersOf, listFits, scriptFits}
 use Rattle.deployment.specs.Catalogue.{recordCount, recordsOf, catalogueOf}
 use Rattle.deployment.specs.Contents.{Contents, ruleRead, policyRead, keepRead, scriptRead}
 use Rattle.deployment.specs.File.{readingNumbers}
@@ -48,9 +47,7 @@ use Rattle.deployment.specs.FieldValues.{
 }
 use Rattle.deployment.specs.Properties.{
   IfThere,
-  RightList,
   RightRules,
-  RightScript,
   WrongBounds,
   NamesOutside,
   RulesPass,
@@ -76,7 +73,6 @@ use Rattle.deployment.specs.Properties.{
   PolicyRight,
   KeepRight,
   ruleCount,
-  PoliciesRight,
   ValuesFail,
   at-rules,
   at-initial,
@@ -85,7 +81,6 @@ use Rattle.deployment.specs.Properties.{
   at-script,
 }
 use Rattle.deployment.specs.Claims.{RefusedValues}
-use Rattle.deployment.specs.declared.Why.{Why}
 use Rattle.deployment.proofs.Numbers.{both-same}
 use Rattle.deployment.proofs.Values.{in-known, wrong-none}
 use Rattle.deployment.proofs.Tests.{

@@ -18,7 +18,7 @@ use Rattle.deployment.specs.Properties.{AreBytes, IfThere, Valid, Turned
 use Rattle.deployment.specs.declared.Why.{Why}
 use Rattle.deployment.specs.declared.Refusal.{Refusal}
 use Rattle.deployment.specs.declared.Written.{Written}
-use Rattle.deployment.specs.declared.Written.the-variants.{Bytes, Turned}
+use Rattle.deployment.specs.declared.Written.the-variants.{Turned}
 
 -- "a definition states this paper's number and values for each of its cases": the numbers tell the cases apart
 abbrev pub WhyNumbersDiffer : Type 0

@@ -239,6 +239,7 @@ pub data RuleFails (earlier : List (List ℕ)) (rule : List ℕ) : ℕ → Type 
   rule-bounds : WrongBounds rule → RuleFails earlier rule 5
   rule-equal : ¬ WrongBounds rule → List·Memᴰ (ruleOf rule) (map ruleOf earlier) → RuleFails earlier rule 6
 
+-- a rule among some, behind others that pass
 pub record RulePlace (rules earlier : List (List ℕ)) (rule : List ℕ) : Type 0 where
   pub later : List (List ℕ)
   pub is : rules ≡ earlier ++ (rule ∷ later)

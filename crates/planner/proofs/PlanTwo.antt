@@ -11,7 +11,7 @@ use lib.Seq.{take-all}
 use Rattle.policy.specs.Claims.{Accepted}
 use Rattle.policy.specs.InsertDeleteMove.{ownChoice, keptTwo, Standing, firstStage, secondStage, planTwo}
 use Rattle.policy.proofs.Order.{sublist-length}
-use Rattle.policy.proofs.InsertDeleteMove.{kept-keepable}
+use Rattle.policy.proofs.Kept.{kept-keepable}
 use Rattle.policy.proofs.Plans.{plans-fit}
 use Rattle.planner.specs.declared.insert_delete_move.Stage.{Stage}
 use Rattle.deployment.specs.Values.{numbersOf}

@@ -1,8 +1,8 @@
 -- The parts of an accepted file, gathered, are the field values of its contents. The idea: the rules so far, gathered, are those of the
 -- catalogue so far, and each further one stands behind them. Assumes nothing.
-use Prim.Native.Nat.{ℕ, suc, _+_}
+use Prim.Native.Nat.{ℕ, suc}
 use native.Mathlib.Omega.{arith}
-use mathlib.Core.Path.{_≡_, refl, sym, _∙_, ap, ap₂}
+use mathlib.Core.Path.{_≡_, refl, sym, _∙_, ap₂}
 use mathlib.Core.Bool.{Bool}
 use mathlib.Core.List.{List, [], _∷_, _++_, map, append-assoc, append-nil}
 use mathlib.Core.Option.{Option, none, some}
@@ -17,7 +17,7 @@ use Rattle.deployment.specs.Properties.{AreBytes, IfThere}
 use Rattle.deployment.specs.Claims.{valuesOf}
 use Rattle.deployment.proofs.Bytes.{from-the-end}
 use Rattle.deployment.proofs.Fields.{joined-snoc, map-snoc}
-use Rattle.reader.specs.Answers.{given, valuesGiven, valueAt, there, rulesGathered, valuesGathered, fileRead}
+use Rattle.reader.specs.Answers.{given, valuesGiven, valueAt, there, rulesGathered, valuesGathered}
 use Rattle.reader.specs.Claims.{ListStands, ScriptStands, Stands, GatheredFile}
 use Rattle.reader.specs.declared.Span.{Span}
 use Rattle.reader.specs.declared.Layout.{Layout}

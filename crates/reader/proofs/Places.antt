@@ -191,9 +191,9 @@ pub rule-stands : (before : List Rule) (rule : Rule) (behind : List Rule) (after
 unfolding ruleSpan spanFrom joined
 rule-stands before rule behind after =
     let front = joined (map ruleField before) in
-    let start : 30 * length before + 3 ≡ length front + 3 = omega (arith, rules-length before) in
-    let size : 27 ≡ length (ruleBytes rule) = sym (length-rule rule) in
-    let place : ruleSpan (length before) ≡ spanFrom (length front) (ruleBytes rule) =
-    λ j. record { start = start j; size = size j } in
+    let span = spanFrom (length front) (ruleBytes rule) in
+    let start : (ruleSpan (length before)) .start ≡ span .start = omega (arith, rules-length before) in
+    let size : (ruleSpan (length before)) .size ≡ span .size = sym (length-rule rule) in
+    let place : ruleSpan (length before) ≡ span = λ j. record { start = start j; size = size j } in
     rw (place, map-append, joined-append, append-assoc, append-assoc)
     (value-stands front rule-tag (ruleBytes rule) (joined (map ruleField behind) ++ after))

@@ -2,15 +2,13 @@
 -- as the checker reads them. The idea: an answer has the numbers of the reading that it shows. Assumes nothing.
 use Prim.Native.Nat.{ℕ}
 use native.Mathlib.Omega.{arith}
-use mathlib.Core.Path.{_≡_, refl, sym, _∙_, ap}
+use mathlib.Core.Path.{_≡_, refl, sym, ap}
 use mathlib.Core.Logic.{_⊎_, inl, inr, ⊎-elim, _↔_}
-use mathlib.Core.List.{List, [], _∷_}
-use mathlib.Core.Option.{none}
+use mathlib.Core.List.{[], _∷_}
 use lib.ListN.{length}
 use denote.Ref.{now}
 use borrow.Fn.World.{ArgsD}
 use Rattle.deployment.specs.Checked.{refusalNumbers}
-use Rattle.deployment.specs.Contents.{Contents}
 use Rattle.deployment.specs.File.{Reading, accepted, refused, readingNumbers, readFile, needsScript, readToJudge}
 use Rattle.deployment.specs.FieldValues.{FieldValues, valuesRead, readValues}
 use Rattle.deployment.specs.Properties.{AreBytes, TurnedAway, ValuesFail}
@@ -19,7 +17,7 @@ use Rattle.deployment.proofs.Numbers.{both-same, numbers-say}
 use Rattle.deployment.proofs.Values.{byOption}
 use Rattle.deployment.proofs.Reader.{refusals}
 use Rattle.deployment.proofs.RefusedValues.{refused-values}
-use Rattle.reader.specs.Answers.{checkingNumbers, valuesGiven, shown, fileRead, fileNumbers}
+use Rattle.reader.specs.Answers.{checkingNumbers, valuesGiven, fileRead, fileNumbers}
 use Rattle.reader.specs.Claims.{FileNumbersSay, RefusedFile, Scriptless, RefusedToJudge, RefusedCheck}
 use Rattle.reader.specs.declared.Checking.{Checking}
 use Rattle.reader.specs.declared.FileRead.{FileRead}
