@@ -1,6 +1,7 @@
 """The deployment file, read by the requirements alone: nothing here is shared with the Rattle sources.
 
-The case makers import this: pieces of files, a reading that gives the line which the case programs print, and the rows of cases.
+The case makers import this: pieces of files, a reading that gives the line which the case programs print, and the rows of cases. The picture
+imports it for what a file has.
 """
 import os
 
@@ -95,6 +96,35 @@ def read(f):
     for tag, name in ((2, "initial"), (3, "target"), (4, "keep"), (5, "script")):
         words.append(f"{name} {spans[tag][0]} {spans[tag][1]}" if tag in spans else f"{name} none")
     return " ".join(words)
+
+
+NAMES = {1: "app", 2: "del", 3: "ins", 4: "del", 5: "mov"}
+
+
+def commands(value):
+    """The commands of a script value, each its name and the numbers that it uses."""
+    taken = []
+    for i in range(1, len(value), 5):
+        code, one, two = value[i], number(value[i + 1:i + 3]), number(value[i + 3:i + 5])
+        taken.append((NAMES[code], one, two) if code in (3, 5) else (NAMES[code], one))
+    return taken
+
+
+def contents(f):
+    """What an accepted file has: its rules, its policies, and the keep list and the script, or None."""
+    words = read(f).split()
+    if words[0] == "refused":
+        return None
+    values = {}
+    at = 2
+    for name in ("initial", "target", "keep", "script"):
+        absent = words[at + 1] == "none"
+        values[name] = None if absent else f[int(words[at + 1]):int(words[at + 1]) + int(words[at + 2])]
+        at += 2 if absent else 3
+    taken = {name: None if values[name] is None else listed(values[name]) for name in ("initial", "target", "keep")}
+    taken["rules"] = [f[30 * k + 3:30 * k + 30] for k in range(int(words[1]))]
+    taken["script"] = None if values["script"] is None else (values["script"][0], commands(values["script"]))
+    return taken
 
 
 def make(folder, rows, line):
