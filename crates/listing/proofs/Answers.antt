@@ -18,7 +18,7 @@ use Rattle.listing.proofs.plan_text.Reads as plan-text
 use Rattle.listing.proofs.judge_text.Reads as judge-text
 
 -- both are what is left
-same-answers : {r s : Written} {after other : List ℕ} {left : Writing} → leftBy r after ≡ left → leftBy s other ≡ left → (r ≡ s) × (after ≡ other)
+pub same-answers : {r s : Written} {after other : List ℕ} {left : Writing} → leftBy r after ≡ left → leftBy s other ≡ left → (r ≡ s) × (after ≡ other)
 same-answers p q = let same = p ∙ sym q in (ap (λ (w : Writing). w .answer) same, ap (λ (w : Writing). w .place) same)
 
 pub one-plan-text : (κ : _) (a : _) (r s : Written) (e f : _) → plan-text.Post κ a r e → plan-text.Post κ a s f
@@ -30,7 +30,7 @@ pub one-judge-text : (κ : _) (a : _) (r s : Written) (e f : _) → judge-text.P
 one-judge-text κ a r s e f p q = same-answers p q
 
 -- with room, the answer counts the text's bytes
-written-all : {r : Written} {after : List ℕ} (output place : List ℕ) → leftBy r after ≡ writing output place → length output ≤ length place
+pub written-all : {r : Written} {after : List ℕ} (output place : List ℕ) → leftBy r after ≡ writing output place → length output ≤ length place
     → r ≡ Bytes (length output)
 unfolding writing
 written-all output place p h = ap (λ (w : Writing). w .answer) (rw (le-leb (length output) (length place) h) at p)
