@@ -1,4 +1,4 @@
-//! One input with all answers to it: the two texts of a file, and every entry,
+//! One input with all answers to it: the texts of a file, and every entry,
 //! over files and over field values. `compare` holds two of these against each other.
 
 #[cfg(feature = "library")]
@@ -29,7 +29,7 @@ const WORDS: usize = 11;
 pub struct Rooms {
     pub plans: [usize; 2],
     pub replay: usize,
-    pub texts: [usize; 2],
+    pub texts: [usize; 3],
     pub replay_values: usize,
     pub flows: usize,
 }
@@ -100,6 +100,7 @@ impl std::fmt::Debug for Answer {
 pub struct Answers {
     pub plan_text: String,
     pub judge_text: String,
+    pub show_text: String,
     pub entries: Option<Vec<Answer>>,
 }
 
@@ -122,7 +123,8 @@ impl Answers {
     /// The first answer that isn't the other's.
     pub fn difference(&self, other: &Answers) -> Option<Difference> {
         let texts = text_difference(&self.plan_text, &other.plan_text)
-            .or_else(|| text_difference(&self.judge_text, &other.judge_text));
+            .or_else(|| text_difference(&self.judge_text, &other.judge_text))
+            .or_else(|| text_difference(&self.show_text, &other.show_text));
         texts.or_else(|| entry_difference(self.entries.as_ref()?, other.entries.as_ref()?))
     }
 }

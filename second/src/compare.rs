@@ -8,23 +8,25 @@ use std::process::{Command, Stdio};
 
 // ---- The other side ----
 
-/// Two programs that read a file from standard input and print its texts.
+/// Programs that read a file from standard input and print its texts.
 pub struct Programs {
     planlist: Vec<String>,
     judgelist: Vec<String>,
+    showlist: Vec<String>,
 }
 
 impl Programs {
     /// Commands are split at blanks; no shell is used.
-    pub fn new(planlist: &str, judgelist: &str) -> Programs {
+    pub fn new(planlist: &str, judgelist: &str, showlist: &str) -> Programs {
         let split = |command: &str| command.split_whitespace().map(str::to_string).collect();
-        Programs { planlist: split(planlist), judgelist: split(judgelist) }
+        Programs { planlist: split(planlist), judgelist: split(judgelist), showlist: split(showlist) }
     }
 
     fn answers(&self, input: &Input) -> io::Result<Answers> {
         Ok(Answers {
             plan_text: output(&self.planlist, &input.file)?,
             judge_text: output(&self.judgelist, &input.file)?,
+            show_text: output(&self.showlist, &input.file)?,
             entries: None,
         })
     }
@@ -42,7 +44,7 @@ fn output(command: &[String], file: &[u8]) -> io::Result<String> {
     Ok(String::from_utf8_lossy(&printed.stdout).into_owned())
 }
 
-/// The other implementation: none, two programs, or the linked library.
+/// The other implementation: none, the programs, or the linked library.
 pub enum Other {
     Nobody,
     Programs(Programs),
@@ -64,11 +66,12 @@ impl Other {
 
 // ---- Counts by outcome ----
 
-/// The kind of a text: "refused N", "verdict N" or "planned".
+/// The kind of a text: "refused N", "verdict N", "planned" or "shown".
 fn text_kind(text: &str) -> String {
     let mut words = text.split_whitespace();
     match (words.next(), words.next()) {
         (Some(word @ ("refused" | "verdict")), Some(number)) => format!("{word} {number:>2}"),
+        (Some("rules"), _) => "shown".to_string(),
         _ => "planned".to_string(),
     }
 }
@@ -100,6 +103,7 @@ impl Counts {
     fn add(&mut self, answers: &Answers) {
         self.count("planlist", text_kind(&answers.plan_text));
         self.count("judgelist", text_kind(&answers.judge_text));
+        self.count("showlist", text_kind(&answers.show_text));
         for answer in answers.entries.iter().flatten() {
             self.count(answer.entry, answer_kind(answer));
         }

@@ -16,5 +16,6 @@ pub mod library;
 pub mod plan;
 pub mod policy;
 pub mod replay;
+pub mod show;
 pub mod text;
 pub mod vectors;

@@ -25,6 +25,7 @@ extern "C" {
     fn pageoriole_plan_two_file(file: Bytes, size: usize, place: Place, room: usize, answer: Words, words: usize) -> u32;
     fn pageoriole_plan_text(file: Bytes, size: usize, place: Place, room: usize, answer: Words, words: usize) -> u32;
     fn pageoriole_judge_text(file: Bytes, size: usize, place: Place, room: usize, answer: Words, words: usize) -> u32;
+    fn pageoriole_show_text(file: Bytes, size: usize, place: Place, room: usize, answer: Words, words: usize) -> u32;
     fn pageoriole_decide_file(
         file: Bytes, size: usize, of_target: bool, protocol: u8, source: u32, source_port: u16, destination: u32,
         destination_port: u16, answer: Words, words: usize,
@@ -112,6 +113,10 @@ pub fn plan_text(file: &[u8], place: &mut [u8], answer: &mut [u64]) -> u32 {
 
 pub fn judge_text(file: &[u8], place: &mut [u8], answer: &mut [u64]) -> u32 {
     writing(pageoriole_judge_text, file, place, answer)
+}
+
+pub fn show_text(file: &[u8], place: &mut [u8], answer: &mut [u64]) -> u32 {
+    writing(pageoriole_show_text, file, place, answer)
 }
 
 #[rustfmt::skip]

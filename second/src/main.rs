@@ -1,7 +1,7 @@
-//! The command line: `second planlist`, `judgelist`, `vectors`, `brute`,
-//! `inputs`, `compare`, `cases` and `bench`; see README.md.
+//! The command line: `second planlist`, `judgelist`, `showlist`, `vectors`,
+//! `brute`, `inputs`, `compare`, `cases` and `bench`; see README.md.
 
-use second::{brute, cases, compare, inputs, text, vectors};
+use second::{brute, cases, compare, inputs, show, text, vectors};
 use std::error::Error;
 use std::io::{self, Read, Write};
 use std::path::Path;
@@ -12,10 +12,11 @@ type Outcome = Result<bool, Box<dyn Error>>;
 const USAGE: &str = "\
 usage: second planlist < FILE
        second judgelist < FILE
+       second showlist < FILE
        second vectors FOLDER
        second brute [--rules N]
        second inputs --seed N --count K --dir FOLDER
-       second compare --seed N --count K [--library | --planlist COMMAND --judgelist COMMAND]
+       second compare --seed N --count K [--library | --planlist COMMAND --judgelist COMMAND --showlist COMMAND]
        second cases FOLDER
        second bench [--only TEXT]
 ";
@@ -37,11 +38,11 @@ struct Takes(usize, &'static [&'static str], &'static [&'static str]);
 
 fn taken(name: &str) -> Option<Takes> {
     Some(match name {
-        "planlist" | "judgelist" => Takes(0, &[], &[]),
+        "planlist" | "judgelist" | "showlist" => Takes(0, &[], &[]),
         "vectors" | "cases" => Takes(1, &[], &[]),
         "brute" => Takes(0, &["--rules"], &[]),
         "inputs" => Takes(0, &["--seed", "--count", "--dir"], &[]),
-        "compare" => Takes(0, &["--seed", "--count", "--planlist", "--judgelist"], &["--library"]),
+        "compare" => Takes(0, &["--seed", "--count", "--planlist", "--judgelist", "--showlist"], &["--library"]),
         "bench" => Takes(0, &["--only"], &[]),
         _ => return None,
     })
@@ -144,13 +145,13 @@ fn run_bench(_: &[String]) -> Outcome {
 
 fn other_side(arguments: &[String]) -> Result<compare::Other, Box<dyn Error>> {
     let library = arguments.iter().any(|argument| argument == "--library");
-    match (option(arguments, "--planlist"), option(arguments, "--judgelist")) {
-        (None, None) if library => linked_library(),
-        (None, None) => Ok(compare::Other::Nobody),
-        (Some(planlist), Some(judgelist)) if !library => {
-            Ok(compare::Other::Programs(compare::Programs::new(planlist, judgelist)))
+    match ["--planlist", "--judgelist", "--showlist"].map(|name| option(arguments, name)) {
+        [None, None, None] if library => linked_library(),
+        [None, None, None] => Ok(compare::Other::Nobody),
+        [Some(planlist), Some(judgelist), Some(showlist)] if !library => {
+            Ok(compare::Other::Programs(compare::Programs::new(planlist, judgelist, showlist)))
         }
-        _ => Err(Misused("either --library, or --planlist and --judgelist together".into()).into()),
+        _ => Err(Misused("either --library, or --planlist, --judgelist and --showlist together".into()).into()),
     }
 }
 
@@ -168,6 +169,7 @@ fn run(arguments: &[String]) -> Outcome {
     match name.as_str() {
         "planlist" => print_text(text::plan_text),
         "judgelist" => print_text(text::judge_text),
+        "showlist" => print_text(show::show_text),
         "vectors" => in_folder(rest, vectors::run),
         "brute" => Ok(brute::run(number(rest, "--rules", 4)? as u16)),
         "inputs" => write_inputs(rest),

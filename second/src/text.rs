@@ -6,11 +6,11 @@ use crate::judge::{judge, Verdict};
 use crate::plan::{plan, Plan};
 use std::fmt::Write;
 
-fn refusal_line(refusal: Refusal) -> String {
+pub fn refusal_line(refusal: Refusal) -> String {
     format!("refused {} at {}\n", refusal.number, refusal.position)
 }
 
-fn command_line(step: usize, command: Command) -> String {
+pub fn command_line(step: usize, command: Command) -> String {
     match command {
         Command::App { r } => format!("{step} app {r}\n"),
         Command::DelRule { r } => format!("{step} del {r}\n"),

@@ -29,7 +29,7 @@ use Rattle.listing.proofs.Lengths.{one-more, none-yet, refused-short, v
 use Rattle.listing.proofs.PlanTexts.{plans-short, printed-plans, printed-refusal}
 
 -- a refusal's position is inside the file
-position-inside : (file : List ℕ) (r : Refusal) → AreBytes file → readFile file ≡ refused r → r .at ≤ length file
+pub position-inside : (file : List ℕ) (r : Refusal) → AreBytes file → readFile file ≡ refused r → r .at ≤ length file
 position-inside file r bytes e =
     let away = refusal-row file r bytes .0 e in
     omega (arith, away .counted, ap length (away .is), length-append (fieldsBytes (away .fields)) (away .left))

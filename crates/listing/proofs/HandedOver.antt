@@ -10,19 +10,19 @@ use Rattle.deployment.specs.FieldValues.{leftBy, unwritten, writing}
 use Rattle.deployment.specs.declared.Why.the-variants.{Room}
 use Rattle.deployment.specs.declared.Written.the-variants.{Bytes, Turned}
 use Rattle.deployment.proofs.Storing.{stored-fills}
-use Rattle.listing.specs.Printing.{most-text, Whole, Needed}
+use Rattle.listing.specs.Printing.{Whole, Needed}
 
-pub no-room : (text place : List ℕ) (n : ℕ) → Needed text (length place) n → length place < n
+pub no-room : {most : ℕ} (text place : List ℕ) (n : ℕ) → Needed most text (length place) n → length place < n
     → leftBy (Turned (record { why = Room; at = n })) place ≡ writing text place
 unfolding writing unwritten
 no-room text place n (inl e) small = rw (e, lt-leb (length text) (length place) (omega arith))
 no-room text place n (inr (none, much)) small = absurd (omega arith)
 
-fits : (text place : List ℕ) (n : ℕ) → Needed text (length place) n → n ≤ length place → length text ≤ most-text → length text ≤ length place
+fits : {most : ℕ} (text place : List ℕ) (n : ℕ) → Needed most text (length place) n → n ≤ length place → length text ≤ most → length text ≤ length place
 fits text place n (inl e) enough short = omega arith
 fits text place n (inr (none, much)) enough short = omega arith
 
-pub room : (text place after : List ℕ) (n next : ℕ) → Needed text (length place) n → n ≤ length place → Whole place text after next
+pub room : {most : ℕ} (text place after : List ℕ) (n next : ℕ) → Needed most text (length place) n → n ≤ length place → Whole most place text after next
     → leftBy (Bytes next) after ≡ writing text place
 unfolding writing
 room text place after n next needed enough whole =

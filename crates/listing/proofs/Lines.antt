@@ -1,4 +1,5 @@
--- The lines of a script, one by one: what is put and the lines that are left are all lines, all the time. Assumes nothing.
+-- Lines and other items, one by one: what is put and the text of the items that are left are the text of all items, all the time. Stated of any
+-- text that goes item by item; the commands of a script are one case. Assumes nothing.
 use Prim.Native.Nat.{ℕ, suc, _+_, _≤_, _<_}
 use native.Mathlib.Numerals.{add-one}
 use native.Mathlib.Omega.{arith}
@@ -8,15 +9,46 @@ use lib.ListN.{length, drop, drop-of-length-le}
 use Rattle.policy.specs.declared.Command.{Command}
 use Rattle.deployment.specs.Values.{scriptOf}
 use Rattle.deployment.specs.Commands.{commandCount, commandAt, decoded}
-use Rattle.deployment.specs.FieldValues.{Stored}
 use Rattle.deployment.specs.declared.Decoded.the-variants.{Is}
-use Rattle.deployment.proofs.Storing.{stored-more}
 use Rattle.reader.proofs.Scripts.{decoded-is}
 use Rattle.replay.specs.Answers.{commandsOf, Readable}
 use Rattle.replay.proofs.Scripts.{command-next}
-use Rattle.listing.specs.Text.{lineText, linesText}
-use Rattle.listing.specs.Printing.{Ends}
-use Rattle.listing.proofs.Pieces.{ends-first, ends-rest}
+use Rattle.listing.specs.Printing.{Puts}
+use Rattle.listing.proofs.Pieces.{puts-more}
+
+-- the text of the first k items, numbered from `first` on, stands from `at` on, and with that of the others it is the whole
+pub record Lines {A : Type 0} (all : ℕ → List A → List ℕ) (first : ℕ) (items : List A) (whole old : List ℕ) (at : ℕ) (place : List ℕ) (next k : ℕ) : Type 0 where
+  pub written : List ℕ
+  pub put : Puts old at written place next
+  pub left : written ++ all (k + first) (drop k items) ≡ whole
+
+module _ {A : Type 0} (all : ℕ → List A → List ℕ) (first : ℕ) (items : List A) where
+  pub no-lines : (old : List ℕ) (at : ℕ) → Lines all first items (all first items) old at old at 0
+  no-lines old at =
+      let start : 0 + first ≡ first = omega arith in
+      record { written = []; put = λ fits. record { place = refl; end = omega arith }; left = rw start }
+
+  module _ {whole old : List ℕ} {at : ℕ} {place : List ℕ} {next : ℕ} (k : ℕ) (so-far : Lines all first items whole old at place next k) where
+    pub one-line : (a : A) (line : List ℕ) → drop k items ≡ a ∷ drop (suc k) items
+        → all (k + first) (a ∷ drop (suc k) items) ≡ line ++ all (suc (k + first)) (drop (suc k) items)
+        → {more : List ℕ} {end : ℕ} → Puts place next line more end → Lines all first items whole old at more end (k + 1)
+    one-line a line rest is put =
+        let more : k + 1 + first ≡ suc (k + first) = omega arith in
+        let here : drop (k + 1) items ≡ drop (suc k) items = rw add-one in
+        record {
+          written = so-far .written ++ line;
+          put = puts-more (so-far .put) put;
+          left =
+              rw (append-assoc, more, here)
+              (ap (λ (l : List ℕ). so-far .written ++ l) (sym (ap (all (k + first)) rest ∙ is)) ∙ so-far .left);
+        }
+
+    pub all-lines : length items ≤ k → all (k + first) [] ≡ [] → Puts old at whole place next
+    all-lines h none =
+        let none-left = drop-of-length-le items {i = k} h in
+        let complete : so-far .written ≡ whole =
+        sym (append-nil (so-far .written)) ∙ ap (λ (l : List ℕ). so-far .written ++ l) (sym (ap (all (k + first)) none-left ∙ none)) ∙ so-far .left in
+        rw (← complete) (so-far .put)
 
 -- the k-th command of a script value that is read, and the rest
 pub next-command : (value : List ℕ) → Readable value → (k : ℕ) (c : Command) → k < commandCount value → Is c ≡ decoded (commandAt value k)
@@ -25,40 +57,3 @@ next-command value readable k c h is =
     let (d, at, rest) = command-next value readable k h in
     let same : d ≡ c = cc (at, decoded-is (commandAt value k) c is) in
     rest ∙ ap (λ (x : Command). x ∷ drop (suc k) (commandsOf (scriptOf value))) same
-
--- the lines of the first k commands stand from `at` on
-pub record Lines (commands : List Command) (old : List ℕ) (at : ℕ) (place : List ℕ) (next k : ℕ) : Type 0 where
-  pub written : List ℕ
-  pub stored : Stored old at written place next
-  pub left : written ++ linesText (suc k) (drop k commands) ≡ linesText 1 commands
-
-pub no-lines : (commands : List Command) (old : List ℕ) (at : ℕ) → Lines commands old at old at 0
-no-lines commands old at = record { written = []; stored = record { place = refl; end = omega arith }; left = refl }
-
-module _ (commands : List Command) {old : List ℕ} {at : ℕ} {place : List ℕ} {next : ℕ} (k : ℕ) (so-far : Lines commands old at place next k) where
-  module _ (c : Command) (rest : drop k commands ≡ c ∷ drop (suc k) commands) where
-    one-left : so-far .written ++ (lineText (suc k) c ++ linesText (suc (suc k)) (drop (suc k) commands)) ≡ linesText 1 commands
-    unfolding linesText
-    one-left = rw (← so-far .left, rest)
-
-    pub line-ends : Ends at (linesText 1 commands) → Ends next (lineText (k + 1) c)
-    line-ends ends =
-        let others = linesText (suc (suc k)) (drop (suc k) commands) in
-        rw add-one
-        (ends-first next (lineText (suc k) c) others
-        (ends-rest (so-far .written) (lineText (suc k) c ++ others) (so-far .stored) (rw (← one-left) at ends)))
-
-    pub one-line : {more : List ℕ} {end : ℕ} → Stored place next (lineText (k + 1) c) more end → Lines commands old at more end (k + 1)
-    one-line put =
-        record {
-          written = so-far .written ++ lineText (k + 1) c;
-          stored = stored-more (so-far .stored) put;
-          left = rw (append-assoc, add-one) one-left;
-        }
-
-  pub all-lines : length commands ≤ k → Stored old at (linesText 1 commands) place next
-  unfolding linesText
-  all-lines h =
-      let none-left = drop-of-length-le commands {i = k} h in
-      let all : so-far .written ≡ linesText 1 commands = sym (append-nil (so-far .written)) ∙ (rw none-left at (so-far .left)) in
-      rw (← all) (so-far .stored)

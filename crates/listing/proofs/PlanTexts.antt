@@ -18,9 +18,7 @@ use Rattle.deployment.specs.Values.{Script, scriptOf}
 use Rattle.deployment.specs.Contents.{Contents}
 use Rattle.deployment.specs.File.{accepted, refused, readFile, head-bytes}
 use Rattle.deployment.specs.Properties.{Scripted, Valid}
-use Rattle.deployment.specs.FieldValues.{Stored}
 use Rattle.deployment.specs.declared.Refusal.{Refusal}
-use Rattle.deployment.proofs.Storing.{stored-more}
 use Rattle.replay.specs.Answers.{commandsOf}
 use Rattle.planner.specs.Plans.{Made, scriptField, planOf, madeOne, madeTwo, Left, leftBy, sentPlan, placedPlan, planned}
 use Rattle.planner.specs.Claims.{Holds}
@@ -29,8 +27,8 @@ use Rattle.planner.specs.declared.Planned.{Planned}
 use Rattle.planner.specs.declared.Planned.the-variants.{Done, Turned}
 use Rattle.planner.proofs.Claims.{scripted, lists-accepted, plans-few, one-holds, two-holds, room-for-every}
 use Rattle.listing.specs.Text.{linesText, headText, blockText, planBlock, planText, refusedText, planPrinted}
-use Rattle.listing.specs.Printing.{most-text, Ends, Whole, Reads}
-use Rattle.listing.proofs.Pieces.{ends-first, ends-rest}
+use Rattle.listing.specs.Printing.{most-text, Puts, Whole, Reads}
+use Rattle.listing.proofs.Pieces.{puts-more, puts-whole}
 use Rattle.listing.proofs.Lengths.{two-bytes-short, length-head, command-short, lines-short}
 
 -- The block of a plan that was made is the head by its numbers, and the lines of the script in its field.
@@ -156,27 +154,17 @@ unfolding planPrinted
 printed-plans file c e = rw (e, planPrinted)
 
 module _ (c : Contents) (valid : Valid c) (initial target : ℕ) (i : initial ≡ length (c .initial)) (t : target ≡ length (c .target)) where
-  abbrev pub block-one : List ℕ
+  abbrev block-one : List ℕ
   block-one = blockText 1 initial target (length (keptRun (c .initial) (c .target))) (planOne (c .initial) (c .target))
 
-  abbrev pub block-two : List ℕ
+  abbrev block-two : List ℕ
   block-two = blockText 2 initial target (length (keptTwo (c .initial) (c .target) (c .keep))) (planTwo (c .initial) (c .target) (c .keep))
 
   both-blocks : block-one ++ block-two ≡ planText c
   unfolding planText planBlock
   both-blocks = rw (i, t)
 
-  both-end : Ends 0 (block-one ++ block-two)
-  both-end = rw both-blocks (omega (arith, plans-short c valid))
-
-  pub first-ends : Ends 0 block-one
-  first-ends = ends-first 0 block-one block-two both-end
-
-  module _ {old middle : List ℕ} {next : ℕ} (first : Stored old 0 block-one middle next) where
-    pub second-ends : Ends next block-two
-    second-ends = ends-rest block-one block-two first both-end
-
-    pub both-printed : {place : List ℕ} {end : ℕ} → Stored middle next block-two place end → (file : List ℕ) → readFile file ≡ accepted c
-        → Whole old (planPrinted file) place end
-    both-printed second file e =
-        rw (printed-plans file c e, ← both-blocks) (record { put = stored-more first second; ends = rw both-blocks (plans-short c valid) })
+  pub both-printed : {old middle place : List ℕ} {next end : ℕ} → Puts old 0 block-one middle next → Puts middle next block-two place end
+      → (file : List ℕ) → readFile file ≡ accepted c → Whole most-text old (planPrinted file) place end
+  both-printed first second file e =
+      rw (printed-plans file c e, ← both-blocks) (puts-whole (puts-more first second) (rw both-blocks (plans-short c valid)) (omega arith))

@@ -1,5 +1,5 @@
 -- What the printers need to know: where a text ends, and what is planned. Assumes nothing.
-use Prim.Native.Nat.{ℕ, _+_, _-_, _≤_}
+use Prim.Native.Nat.{ℕ, _+_, _-_, _^_, _≤_, _<_}
 use mathlib.Core.Path.{_≡_}
 use mathlib.Core.Logic.{_⊎_}
 use mathlib.Core.List.{List}
@@ -19,25 +19,25 @@ use Rattle.planner.specs.declared.Planned.the-variants.{Done}
 abbrev pub most-text : ℕ
 most-text = 65536
 
--- a text from a position on that ends inside the longest one
-abbrev pub Ends : ℕ → List ℕ → Type 0
-Ends at bytes = at + length bytes ≤ most-text
+-- bytes put from a position on, and the position behind them, wherever 64 bits hold it
+abbrev pub Puts : List ℕ → ℕ → List ℕ → List ℕ → ℕ → Type 0
+Puts before at bytes after next = at + length bytes < 2 ^ 64 → Stored before at bytes after next
 
--- a whole text, from the start of a place on
-pub record Whole (before bytes after : List ℕ) (next : ℕ) : Type 0 where
+-- a whole text, from the start of a place on, of at most so many bytes
+pub record Whole (most : ℕ) (before bytes after : List ℕ) (next : ℕ) : Type 0 where
   pub put : Stored before 0 bytes after next
-  pub ends : length bytes ≤ most-text
+  pub ends : length bytes ≤ most
 
--- the bytes that a text needs; 0 will do where there is room for every text
-abbrev pub Needed : List ℕ → ℕ → ℕ → Type 0
-Needed text room n = (n ≡ length text) ⊎ ((n ≡ 0) × (most-text ≤ room))
+-- the bytes that a text of at most so many needs; 0 will do where there is room for every such text
+abbrev pub Needed : ℕ → List ℕ → ℕ → ℕ → Type 0
+Needed most text room n = (n ≡ length text) ⊎ ((n ≡ 0) × (most ≤ room))
 
 -- the number of a verdict and at most two values, of twenty digits each behind a blank
 abbrev pub most-values : ℕ
 most-values = 63
 
 pub record Values (before : List ℕ) (at : ℕ) (numbers after : List ℕ) (next : ℕ) : Type 0 where
-  pub put : Stored before at (spacedAll numbers) after next
+  pub put : Puts before at (spacedAll numbers) after next
   pub short : length (spacedAll numbers) ≤ most-values
 
 -- a plan that was made, and a script field that reads as its commands

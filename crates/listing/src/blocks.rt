@@ -4,9 +4,8 @@ ghost use mathlib.Core.Path.{_≡_};
 ghost use mathlib.Core.List.{List};
 ghost use Prim.Native.Nat.{ℕ};
 ghost use Rattle.policy.specs.declared.Command.{Command};
-ghost use Rattle.deployment.specs.FieldValues.{Stored};
 ghost use Rattle.listing.specs.Text.{headText, blockText};
-ghost use Rattle.listing.specs.Printing.{Ends, Reads};
+ghost use Rattle.listing.specs.Printing.{Puts, Reads};
 use super::commands::put_lines;
 use super::words::put_named;
 use super::words::put_word;
@@ -23,8 +22,7 @@ fn put_head(
     kept: usize,
     commands: usize,
 ) -> usize
-    requires { ⌜ Ends at (headText kind initial target kept commands) ⌝ }
-    ensures { λ next. ⌜ Stored (now (place .entry)) at (headText kind initial target kept commands) (now (place .exit)) next ⌝ }
+    ensures { λ next. ⌜ Puts (now (place .entry)) at (headText kind initial target kept commands) (now (place .exit)) next ⌝ }
 {
     let mut next = put_named(place, at, b"type", kind);
     next = put_named(place, next, b" initial", initial);
@@ -45,11 +43,10 @@ pub fn put_block(
     field: &[u8],
 ) -> usize
     requires { ⌜
-        ((kept : ℕ) × (commands : List Command) × Reads answer (now field) kind kept commands
-        × Ends at (blockText kind initial target kept commands)) ⌝ }
+        ((kept : ℕ) × (commands : List Command) × Reads answer (now field) kind kept commands) ⌝ }
     ensures { λ next. ⌜
         ((kept : ℕ) (commands : List Command) → Reads answer (now (field .entry)) kind kept commands
-        → Stored (now (place .entry)) at (blockText kind initial target kept commands) (now (place .exit)) next) ⌝ }
+        → Puts (now (place .entry)) at (blockText kind initial target kept commands) (now (place .exit)) next) ⌝ }
 {
     let Planned::Done(plan) = answer else {
         return at;

@@ -1,11 +1,10 @@
-// The plans' commands, a line each.
+// Commands, a line each.
 
 ghost use mathlib.Core.Path.{_≡_};
-ghost use Rattle.deployment.specs.FieldValues.{Stored};
 ghost use Rattle.deployment.specs.Values.{scriptOf};
 ghost use Rattle.replay.specs.Answers.{commandsOf, Readable};
 ghost use Rattle.listing.specs.Text.{commandText, lineText, linesText};
-ghost use Rattle.listing.specs.Printing.{Ends};
+ghost use Rattle.listing.specs.Printing.{Puts};
 use super::words::put_named;
 use super::words::put_number;
 use super::words::put_spaced;
@@ -17,8 +16,7 @@ use policy::Command;
 
 // "the command's name and its numbers"
 fn put_command(place: &mut [u8], at: usize, c: Command) -> usize
-    requires { ⌜ Ends at (commandText c) ⌝ }
-    ensures { λ next. ⌜ Stored (now (place .entry)) at (commandText c) (now (place .exit)) next ⌝ }
+    ensures { λ next. ⌜ Puts (now (place .entry)) at (commandText c) (now (place .exit)) next ⌝ }
 {
     match c {
         Command::App(r) => put_named(place, at, b"app", r as usize),
@@ -37,8 +35,7 @@ fn put_command(place: &mut [u8], at: usize, c: Command) -> usize
 
 // "A line gives the step, the command's name and its numbers."
 fn put_line(place: &mut [u8], at: usize, step: usize, c: Command) -> usize
-    requires { ⌜ Ends at (lineText step c) ⌝ }
-    ensures { λ next. ⌜ Stored (now (place .entry)) at (lineText step c) (now (place .exit)) next ⌝ }
+    ensures { λ next. ⌜ Puts (now (place .entry)) at (lineText step c) (now (place .exit)) next ⌝ }
 {
     let mut next = put_number(place, at, step);
     next = put_word(place, next, b" ");
@@ -46,11 +43,11 @@ fn put_line(place: &mut [u8], at: usize, step: usize, c: Command) -> usize
     put_word(place, next, b"\n")
 }
 
-// A line for each command of a script value.
+// A line for each command of a script value that is read.
 pub fn put_lines(place: &mut [u8], at: usize, script: &[u8]) -> usize
-    requires { ⌜ Readable (now script) × Ends at (linesText 1 (commandsOf (scriptOf (now script)))) ⌝ }
     ensures { λ next. ⌜
-        Stored (now (place .entry)) at (linesText 1 (commandsOf (scriptOf (now (script .entry))))) (now (place .exit)) next
+        (Readable (now (script .entry))
+        → Puts (now (place .entry)) at (linesText 1 (commandsOf (scriptOf (now (script .entry))))) (now (place .exit)) next)
         ⌝ }
 {
     let count = commands(script);

@@ -7,7 +7,7 @@ ghost use Rattle.deployment.specs.Contents.{Contents};
 ghost use Rattle.deployment.specs.File.{accepted, readFile};
 ghost use Rattle.deployment.specs.FieldValues.{leftBy, writing};
 ghost use Rattle.listing.specs.Text.{planPrinted, judgePrinted};
-ghost use Rattle.listing.specs.Printing.{Whole, Needed};
+ghost use Rattle.listing.specs.Printing.{most-text, Whole, Needed};
 use blocks::put_block;
 use deployment::Refusal;
 use deployment::Why;
@@ -25,9 +25,9 @@ use reader::file::read;
 use reader::file::value;
 
 mod blocks;
-mod commands;
-mod outcomes;
-mod words;
+pub mod commands;
+pub mod outcomes;
+pub mod words;
 
 // No text is longer: a place of so many bytes is never too small.
 pub const MOST_TEXT: usize = 65536;
@@ -65,7 +65,7 @@ pub fn judge_text(file: &[u8], place: &mut [u8]) -> Written
 
 // How many bytes the text of both plans needs: it is put into no place at all, and counted. Room for the longest text needs no count.
 fn plans_needed(file: &[u8], room: usize) -> usize
-    ensures { λ n. ⌜ Needed (planPrinted (now (file .entry))) room n ⌝ }
+    ensures { λ n. ⌜ Needed most-text (planPrinted (now (file .entry))) room n ⌝ }
 {
     if MOST_TEXT <= room {
         return 0;
@@ -76,7 +76,7 @@ fn plans_needed(file: &[u8], room: usize) -> usize
 
 // The same for the text of the verdict.
 fn judged_needed(file: &[u8], room: usize) -> usize
-    ensures { λ n. ⌜ Needed (judgePrinted (now (file .entry))) room n ⌝ }
+    ensures { λ n. ⌜ Needed most-text (judgePrinted (now (file .entry))) room n ⌝ }
 {
     if MOST_TEXT <= room {
         return 0;
@@ -87,7 +87,7 @@ fn judged_needed(file: &[u8], room: usize) -> usize
 
 // The text of both plans, or of the refusal.
 fn put_plans(file: &[u8], place: &mut [u8]) -> usize
-    ensures { λ next. ⌜ Whole (now (place .entry)) (planPrinted (now (file .entry))) (now (place .exit)) next ⌝ }
+    ensures { λ next. ⌜ Whole most-text (now (place .entry)) (planPrinted (now (file .entry))) (now (place .exit)) next ⌝ }
 {
     let found = read(file);
     match found {
@@ -104,7 +104,7 @@ fn put_plans(file: &[u8], place: &mut [u8]) -> usize
 fn put_both(file: &[u8], initial: usize, target: usize, place: &mut [u8]) -> usize
     requires { ⌜
         ((c : Contents) × (readFile (now file) ≡ accepted c) × (initial ≡ length (c .initial)) × (target ≡ length (c .target))) ⌝ }
-    ensures { λ next. ⌜ Whole (now (place .entry)) (planPrinted (now (file .entry))) (now (place .exit)) next ⌝ }
+    ensures { λ next. ⌜ Whole most-text (now (place .entry)) (planPrinted (now (file .entry))) (now (place .exit)) next ⌝ }
 {
     let mut field = [0u8; FIELD_BYTES];
     let one = plan_one_file(file, &mut field);
@@ -117,7 +117,7 @@ fn put_both(file: &[u8], initial: usize, target: usize, place: &mut [u8]) -> usi
 
 // The text of the verdict, or of the refusal.
 fn put_judged(file: &[u8], place: &mut [u8]) -> usize
-    ensures { λ next. ⌜ Whole (now (place .entry)) (judgePrinted (now (file .entry))) (now (place .exit)) next ⌝ }
+    ensures { λ next. ⌜ Whole most-text (now (place .entry)) (judgePrinted (now (file .entry))) (now (place .exit)) next ⌝ }
 {
     let found = judge_file(file);
     match found {

@@ -3,12 +3,11 @@
 
 ghost use mathlib.Core.Path.{_≡_};
 ghost use mathlib.Core.List.{[], _∷_, _++_};
-ghost use Prim.Native.Nat.{_+_, _<_, _≤_};
-ghost use lib.ListN.{length};
-ghost use Rattle.deployment.specs.FieldValues.{Stored};
+ghost use Prim.Native.Nat.{_+_, _<_};
 ghost use Rattle.listing.specs.Text.{decimal, spaced};
-ghost use Rattle.listing.specs.Printing.{most-text, Ends};
+ghost use Rattle.listing.specs.Printing.{Puts};
 use deployment::store;
+use std::num::wrapping_add_usize;
 
 // Numbers are printed in decimal digits, from the digit 0 on.
 const TEN: usize = 10;
@@ -17,17 +16,16 @@ const ZERO: u8 = b'0';
 
 // A fixed word.
 pub fn put_word(place: &mut [u8], at: usize, word: &[u8]) -> usize
-    requires { ⌜ Ends at (now word) ⌝ }
-    ensures { λ next. ⌜ Stored (now (place .entry)) at (now (word .entry)) (now (place .exit)) next ⌝ }
+    ensures { λ next. ⌜ Puts (now (place .entry)) at (now (word .entry)) (now (place .exit)) next ⌝ }
 {
     store(place, at, word);
-    at + word.len()
+    wrapping_add_usize(at, word.len())
 }
 
 // One digit.
 fn put_digit(place: &mut [u8], at: usize, digit: usize) -> usize
-    requires { ⌜ (at < most-text) × (digit < 10) ⌝ }
-    ensures { λ next. ⌜ Stored (now (place .entry)) at ((48 + digit) ∷ []) (now (place .exit)) next ⌝ }
+    requires { ⌜ digit < 10 ⌝ }
+    ensures { λ next. ⌜ Puts (now (place .entry)) at ((48 + digit) ∷ []) (now (place .exit)) next ⌝ }
 {
     let one = [ZERO + (digit as u8)];
     put_word(place, at, &one)
@@ -35,8 +33,7 @@ fn put_digit(place: &mut [u8], at: usize, digit: usize) -> usize
 
 // A number: the digits of its tenth part, then its last digit.
 pub fn put_number(place: &mut [u8], at: usize, n: usize) -> usize
-    requires { ⌜ Ends at (decimal n) ⌝ }
-    ensures { λ next. ⌜ Stored (now (place .entry)) at (decimal n) (now (place .exit)) next ⌝ }
+    ensures { λ next. ⌜ Puts (now (place .entry)) at (decimal n) (now (place .exit)) next ⌝ }
 {
     if n < TEN {
         return put_digit(place, at, n);
@@ -47,8 +44,7 @@ pub fn put_number(place: &mut [u8], at: usize, n: usize) -> usize
 
 // A blank and a number.
 pub fn put_spaced(place: &mut [u8], at: usize, n: usize) -> usize
-    requires { ⌜ Ends at (spaced n) ⌝ }
-    ensures { λ next. ⌜ Stored (now (place .entry)) at (spaced n) (now (place .exit)) next ⌝ }
+    ensures { λ next. ⌜ Puts (now (place .entry)) at (spaced n) (now (place .exit)) next ⌝ }
 {
     let next = put_word(place, at, b" ");
     put_number(place, next, n)
@@ -56,8 +52,7 @@ pub fn put_spaced(place: &mut [u8], at: usize, n: usize) -> usize
 
 // A word, a blank and a number.
 pub fn put_named(place: &mut [u8], at: usize, word: &[u8], n: usize) -> usize
-    requires { ⌜ Ends at (now word ++ spaced n) ⌝ }
-    ensures { λ next. ⌜ Stored (now (place .entry)) at (now (word .entry) ++ spaced n) (now (place .exit)) next ⌝ }
+    ensures { λ next. ⌜ Puts (now (place .entry)) at (now (word .entry) ++ spaced n) (now (place .exit)) next ⌝ }
 {
     let next = put_word(place, at, word);
     put_spaced(place, next, n)

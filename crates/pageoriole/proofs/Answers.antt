@@ -14,6 +14,7 @@ use Rattle.pageoriole.proofs.files.pageoriole_plan_one_file.Reads as pl
 use Rattle.pageoriole.proofs.files.pageoriole_plan_two_file.Reads as plan-two-file
 use Rattle.pageoriole.proofs.files.pageoriole_judge_file.Reads as judge-file
 use Rattle.pageoriole.proofs.files.pageoriole_plan_text.Reads as plan-text
+use Rattle.pageoriole.proofs.files.pageoriole_show_text.Reads as show-text
 use Rattle.pageoriole.proofs.files.pageoriole_judge_text.Reads as judge-text
 use Rattle.pageoriole.proofs.lists.pageoriole_check.Reads as check
 use Rattle.pageoriole.proofs.lists.pageoriole_write.Reads as write
@@ -72,6 +73,10 @@ one-plan-text κ a r s e f p q = one-left p q
 pub one-judge-text : (κ : _) (a : _) (r s : ℕ) (e f : _) → judge-text.Post κ a r e → judge-text.Post κ a s f
     → (r ≡ s) × (now (e .1 .1 .0) ≡ now (f .1 .1 .0)) × (now (e .1 .0) ≡ now (f .1 .0))
 one-judge-text κ a r s e f p q = one-left p q
+
+pub one-show-text : (κ : _) (a : _) (r s : ℕ) (e f : _) → show-text.Post κ a r e → show-text.Post κ a s f
+    → (r ≡ s) × (now (e .1 .1 .0) ≡ now (f .1 .1 .0)) × (now (e .1 .0) ≡ now (f .1 .0))
+one-show-text κ a r s e f p q = one-left p q
 
 pub one-check : (κ : _) (a : _) (r s : ℕ) (e f : _) → check.Post κ a r e → check.Post κ a s f
     → (r ≡ s) × (now (e .1 .1 .1 .1 .1 .1 .1 .0) ≡ now (f .1 .1 .1 .1 .1 .1 .1 .0))

@@ -7,6 +7,7 @@ ghost use Rattle.planner.specs.Plans.{planned, madeOne, madeTwo};
 ghost use Rattle.judge.specs.Answers.{judgedReading};
 ghost use Rattle.entries.specs.Answers.{decidedReading, flowsReading, replayedReading};
 ghost use Rattle.listing.specs.Text.{planPrinted, judgePrinted};
+ghost use Rattle.showing.specs.Text.{showPrinted};
 ghost use Rattle.pageoriole.specs.Answers.{Tells, Leaves, readTold, decidedTold, judgedTold, writeOutcome, replayOutcome, planOutcome, flowOf};
 use super::told::decided_told;
 use super::told::judged_told;
@@ -26,6 +27,7 @@ use entries::files::replay;
 use listing::judge_text;
 use listing::plan_text;
 use policy::Flow;
+use showing::show_text;
 
 // Reads a file: rules; start and size of initial and target policy; whether there is a keep list, its start and size; and so for the script.
 #[no_mangle]
@@ -173,6 +175,20 @@ pub extern "C" fn pageoriole_judge_text(file: &[u8], place: &mut [u8], answer: &
         ⌝ }
 {
     let found = judge_text(file, place);
+    let words = written_told(found);
+    tell(words, answer)
+}
+
+// What `showlist` prints for the file.
+#[no_mangle]
+pub extern "C" fn pageoriole_show_text(file: &[u8], place: &mut [u8], answer: &mut [u64]) -> u32
+    ensures { λ n. ⌜
+        Leaves
+        (writeOutcome (writing (showPrinted (now (file .entry))) (now (place .entry))))
+        n (now (answer .entry)) (now (answer .exit)) (now (place .exit))
+        ⌝ }
+{
+    let found = show_text(file, place);
     let words = written_told(found);
     tell(words, answer)
 }

@@ -1,17 +1,21 @@
-// Prints, for each file that an argument names, its name and what `planlist` and `judgelist` print for it.
+// Prints, for each file that an argument names, its name and what `planlist`, `judgelist` and `showlist` print for it.
 
 use libc::STDOUT_FILENO;
 use listing::judge_text;
 use listing::plan_text;
+use showing::MOST_SHOWN;
+use showing::show_text;
 use streams::print;
 
-// Both texts of a file.
+// All texts of a file.
 fn print_texts(file: &[u8]) {
-    let mut place = io::large_buffer();
+    let mut place = [0u8; MOST_SHOWN];
     let planned = plan_text(file, &mut place);
     print(&place, planned);
     let judged = judge_text(file, &mut place);
     print(&place, judged);
+    let shown = show_text(file, &mut place);
+    print(&place, shown);
 }
 
 fn main() {

@@ -4,7 +4,7 @@ use super::{Answer, Answers, Input, LENT_BYTE};
 use crate::library;
 
 /// No text is longer.
-const TEXT_BYTES: usize = 65_536;
+const TEXT_BYTES: usize = 262_144;
 
 type Texts = fn(&[u8], &mut [u8], &mut [u64]) -> u32;
 
@@ -29,6 +29,7 @@ fn over_files(input: &Input) -> Vec<Answer> {
         Answer::lend("judge file", 0, |_, words| library::judge_file(file, words)),
         Answer::lend("text of plans", rooms.texts[0], |place, words| library::plan_text(file, place, words)),
         Answer::lend("text of judge", rooms.texts[1], |place, words| library::judge_text(file, place, words)),
+        Answer::lend("text of file", rooms.texts[2], |place, words| library::show_text(file, place, words)),
     ];
     for flow in &input.flows {
         for of_target in [false, true] {
@@ -73,5 +74,6 @@ pub fn linked(input: &Input) -> Answers {
     let mut entries = over_files(input);
     entries.extend(over_values(input));
     let (plan_text, judge_text) = (text(library::plan_text, &input.file), text(library::judge_text, &input.file));
-    Answers { plan_text, judge_text, entries: Some(entries) }
+    let show_text = text(library::show_text, &input.file);
+    Answers { plan_text, judge_text, show_text, entries: Some(entries) }
 }

@@ -8,6 +8,7 @@ use crate::judge::judge;
 use crate::plan::plan_contents;
 use crate::policy::{self, Decision, Flow};
 use crate::replay::{self, RunningList};
+use crate::show::show_text;
 use crate::text::{judge_text, plan_text};
 
 type Outcome = (u32, Vec<usize>);
@@ -102,7 +103,7 @@ pub fn rooms(input: &Input, maker: &mut RoomMaker) -> Rooms {
     Rooms {
         plans: [1, 2].map(|kind| room(planned(kind, file::read(file), &mut []))),
         replay: room(replayed(file::read_with_script(file), &mut [])),
-        texts: [plan_text(file), judge_text(file)].map(|text| room(put_text(&text, &mut []))),
+        texts: [plan_text(file), judge_text(file), show_text(file)].map(|text| room(put_text(&text, &mut []))),
         replay_values: room(replayed(to_replay(input), &mut [])),
         flows: maker.room(Some(policy::DECISION_BYTES * input.flows.len())),
     }
@@ -129,6 +130,7 @@ fn over_files(input: &Input) -> Vec<Answer> {
         lend("judge file", 0, |_| judged(file::read_with_script(file))),
         lend("text of plans", rooms.texts[0], |place| put_text(&plan_text(file), place)),
         lend("text of judge", rooms.texts[1], |place| put_text(&judge_text(file), place)),
+        lend("text of file", rooms.texts[2], |place| put_text(&show_text(file), place)),
     ];
     for flow in &input.flows {
         all.extend([false, true].map(|of_target| lend("decide file", 0, |_| decide_file(file, of_target, flow))));
@@ -168,5 +170,7 @@ fn over_values(input: &Input) -> Vec<Answer> {
 pub fn ours(input: &Input) -> Answers {
     let mut entries = over_files(input);
     entries.extend(over_values(input));
-    Answers { plan_text: plan_text(&input.file), judge_text: judge_text(&input.file), entries: Some(entries) }
+    let file = &input.file;
+    let (plan_text, judge_text, show_text) = (plan_text(file), judge_text(file), show_text(file));
+    Answers { plan_text, judge_text, show_text, entries: Some(entries) }
 }

@@ -10,7 +10,7 @@ use Rattle.deployment.specs.Properties.{Valid}
 use Rattle.deployment.proofs.Bytes.{elements-are-bytes}
 use Rattle.deployment.proofs.Reader.{written-again}
 use Rattle.listing.specs.Printing.{Reads}
-use Rattle.listing.proofs.PlanTexts.{one-reads, two-reads, first-ends, second-ends, both-printed}
+use Rattle.listing.proofs.PlanTexts.{one-reads, two-reads, both-printed}
 use borrow.Author.Needs.{needs}
 use Rattle.listing.proofs.put_both.Statement.{statement}
 use Rattle.listing.proofs.put_both.Tie as tie
@@ -60,9 +60,7 @@ slice-aggregate-put-block c = search needs
 
 put-block-requires : tie.Need-put-block-requires
 put-block-requires c κs =
-    let one = c .before .before .before in
-    let start = one .before .before .before .before in
-    (_, _, one-is one, first-ends (contents one) (valid one) (start .args .initial) (start .args .target) (start .pre .2) (start .pre .3))
+    (_, _, one-is (c .before .before .before))
 
 slice-aggregate-plan-two-file : tie.Need-slice-aggregate-plan-two-file
 slice-aggregate-plan-two-file c = search needs
@@ -78,15 +76,7 @@ slice-aggregate-put-block-2 c = search needs
 
 put-block-requires-2 : tie.Need-put-block-requires-2
 put-block-requires-2 c κs =
-    let two = c .before .before .before in
-    let one = at-one two in
-    let start = one .before .before .before .before in (
-      _,
-      _,
-      two-is two,
-      second-ends (contents one) (valid one) (start .args .initial) (start .args .target) (start .pre .2) (start .pre .3)
-          (two .before .before .before .before .put-block .ensures _ _ (one-is one)),
-    )
+    (_, _, two-is (c .before .before .before))
 
 same-length : tie.Need-same-length
 same-length c = search needs

@@ -1,8 +1,7 @@
 -- `put_command` meets its contract: each case is the definition's own. Assumes nothing.
 use mathlib.Core.List.{_∷_}
-use Rattle.deployment.proofs.Storing.{stored-more}
 use Rattle.listing.specs.Text.{text, spaced, named, commandText}
-use Rattle.listing.proofs.Pieces.{ends-first, ends-rest}
+use Rattle.listing.proofs.Pieces.{puts-more}
 use borrow.Author.Needs.{needs}
 use Rattle.listing.proofs.commands.put_command.Statement.{statement}
 use Rattle.listing.proofs.commands.put_command.Tie as tie
@@ -17,8 +16,7 @@ cast-put-named : tie.Need-cast-put-named
 cast-put-named c = search needs
 
 put-named-requires : tie.Need-put-named-requires
-unfolding commandText named text
-put-named-requires c κs = rw (c .before .before .before .c .given .1) at (c .before .before .before .before .before .before .pre)
+put-named-requires c κs = search needs
 
 enum-known-c-2 : tie.Need-enum-known-c-2
 enum-known-c-2 c = search needs
@@ -30,8 +28,7 @@ cast-put-named-2 : tie.Need-cast-put-named-2
 cast-put-named-2 c = search needs
 
 put-named-requires-2 : tie.Need-put-named-requires-2
-unfolding commandText named text
-put-named-requires-2 c κs = rw (c .before .before .before .c2 .given .1) at (c .before .before .before .before .before .before .pre)
+put-named-requires-2 c κs = search needs
 
 enum-known-c-3 : tie.Need-enum-known-c-3
 enum-known-c-3 c = search needs
@@ -46,28 +43,16 @@ returns-3 : tie.Need-returns-3
 unfolding commandText named text
 returns-3 c =
     let called = c .before .before .before .before .before .before in
-    rw (called .before .before .before .before .c3 .given .1) (stored-more (called .put-named3 .ensures) (c .before .before .put-spaced .ensures))
+    rw (called .before .before .before .before .c3 .given .1) (puts-more (called .put-named3 .ensures) (c .before .before .put-spaced .ensures))
 
 put-named-requires-3 : tie.Need-put-named-requires-3
-unfolding commandText named text
-put-named-requires-3 c κs =
-    let known = c .before .before .before in
-    let start = known .before .before .before in
-    let numbers = known .c3 .given .0 in
-    ends-first (start .args .at) (105 ∷ 110 ∷ 115 ∷ spaced (numbers .0)) (spaced (numbers .1 .0)) (rw (known .c3 .given .1) at (start .pre))
+put-named-requires-3 c κs = search needs
 
 cast-put-spaced : tie.Need-cast-put-spaced
 cast-put-spaced c = search needs
 
 put-spaced-requires : tie.Need-put-spaced-requires
-unfolding commandText named text
-put-spaced-requires c κs =
-    let called = c .before .before .before in
-    let known = called .before .before .before .before in
-    let start = known .before .before .before in
-    let numbers = known .c3 .given .0 in
-    ends-rest (105 ∷ 110 ∷ 115 ∷ spaced (numbers .0)) (spaced (numbers .1 .0)) (called .put-named3 .ensures)
-    (rw (known .c3 .given .1) at (start .pre))
+put-spaced-requires c κs = search needs
 
 enum-known-c-4 : tie.Need-enum-known-c-4
 enum-known-c-4 c = search needs
@@ -79,8 +64,7 @@ cast-put-named-4 : tie.Need-cast-put-named-4
 cast-put-named-4 c = search needs
 
 put-named-requires-4 : tie.Need-put-named-requires-4
-unfolding commandText named text
-put-named-requires-4 c κs = rw (c .before .before .before .c4 .given .1) at (c .before .before .before .before .before .before .pre)
+put-named-requires-4 c κs = search needs
 
 enum-known-c-5 : tie.Need-enum-known-c-5
 enum-known-c-5 c = search needs
@@ -95,28 +79,16 @@ returns-5 : tie.Need-returns-5
 unfolding commandText named text
 returns-5 c =
     let called = c .before .before .before .before .before .before in
-    rw (called .before .before .before .before .c5 .given .1) (stored-more (called .put-named5 .ensures) (c .before .before .put-spaced2 .ensures))
+    rw (called .before .before .before .before .c5 .given .1) (puts-more (called .put-named5 .ensures) (c .before .before .put-spaced2 .ensures))
 
 put-named-requires-5 : tie.Need-put-named-requires-5
-unfolding commandText named text
-put-named-requires-5 c κs =
-    let known = c .before .before .before in
-    let start = known .before .before .before in
-    let numbers = known .c5 .given .0 in
-    ends-first (start .args .at) (109 ∷ 111 ∷ 118 ∷ spaced (numbers .0)) (spaced (numbers .1 .0)) (rw (known .c5 .given .1) at (start .pre))
+put-named-requires-5 c κs = search needs
 
 cast-put-spaced-2 : tie.Need-cast-put-spaced-2
 cast-put-spaced-2 c = search needs
 
 put-spaced-requires-2 : tie.Need-put-spaced-requires-2
-unfolding commandText named text
-put-spaced-requires-2 c κs =
-    let called = c .before .before .before in
-    let known = called .before .before .before .before in
-    let start = known .before .before .before in
-    let numbers = known .c5 .given .0 in
-    ends-rest (109 ∷ 111 ∷ 118 ∷ spaced (numbers .0)) (spaced (numbers .1 .0)) (called .put-named5 .ensures)
-    (rw (known .c5 .given .1) at (start .pre))
+put-spaced-requires-2 c κs = search needs
 
 same-length : tie.Need-same-length
 same-length c = search needs

@@ -1,22 +1,25 @@
 -- `put_lines` meets its contract. The loop's invariant: the lines of the first k commands stand from the start on, and with those that are
 -- left they are all lines. The measure is how many commands are left. Assumes nothing.
-use Prim.Native.Nat.{suc, _-_, _<_}
+use Prim.Native.Nat.{suc, _+_, _-_, _<_}
 use native.Mathlib.Omega.{arith}
-use mathlib.Core.Path.{_≡_, sym, _∙_}
+use mathlib.Core.Path.{_≡_, refl, sym, _∙_}
 use mathlib.Core.List.{_∷_}
-use lib.ListN.{drop}
+use lib.ListN.{length, drop}
 use borrow.Author.Needs.{needs}
 use Rattle.deployment.specs.Values.{scriptOf}
 use Rattle.deployment.specs.Commands.{commandCount}
-use Rattle.deployment.proofs.Storing.{stored-long}
-use Rattle.replay.specs.Answers.{commandsOf}
+use Rattle.replay.specs.Answers.{commandsOf, Readable}
 use Rattle.replay.proofs.Scripts.{script-count, never-wrong}
-use Rattle.listing.proofs.Lines.{Lines, next-command, no-lines, line-ends, one-line, all-lines}
+use Rattle.listing.specs.Text.{lineText, linesText}
+use Rattle.listing.proofs.Lines.{Lines, next-command, no-lines, one-line, all-lines}
 use Rattle.listing.proofs.commands.put_lines.Statement.{statement}
 use Rattle.listing.proofs.commands.put_lines.Tie as tie
 
 abbrev Inv-loop : tie.InvT-loop
-Inv-loop place₀ at script count next₀ k₀ place next k = Lines (commandsOf (scriptOf script)) place₀ at place next k
+Inv-loop place₀ at script count next₀ k₀ place next k =
+    (length place ≡ length place₀)
+    × (Readable script
+    → Lines linesText 1 (commandsOf (scriptOf script)) (linesText 1 (commandsOf (scriptOf script))) place₀ at place next k)
 
 abbrev μ-loop : tie.MeasureT-loop
 μ-loop place₀ at script count next₀ k₀ place next k = count - k
@@ -28,12 +31,13 @@ inside c = omega (arith, c .loop-test .taken, c .before .before .commands .ensur
 -- the k-th command, and those behind it
 next-is : (c : tie.After-d Inv-loop μ-loop) →
     let now = c .before .before .before .before in
-    let script = commandsOf (scriptOf (now .before .before .before .before .args .script .now)) in
-    drop (now .loop .k) script ≡ c .d .given .0 .0 ∷ drop (suc (now .loop .k)) script
-next-is c =
+    let value = now .before .before .before .before .args .script .now in
+    let script = commandsOf (scriptOf value) in
+    Readable value → drop (now .loop .k) script ≡ c .d .given .0 .0 ∷ drop (suc (now .loop .k)) script
+next-is c readable =
     let called = c .before .before in
     let start = called .before .before .before .before .before .before in
-    next-command (start .args .script .now) (start .pre .0) (called .before .before .loop .k) (c .d .given .0 .0) (inside (called .before))
+    next-command (start .args .script .now) readable (called .before .before .loop .k) (c .d .given .0 .0) (inside (called .before))
     (sym (c .d .given .1) ∙ called .command-at .ensures)
 
 commands-requires : tie.Need-commands-requires Inv-loop μ-loop
@@ -41,7 +45,8 @@ commands-requires c κs = search needs
 
 loop-holds : tie.Need-loop-holds Inv-loop μ-loop
 loop-holds c =
-    let args = c .before .before .before .args in no-lines (commandsOf (scriptOf (args .script .now))) (args .place .now) (args .at)
+    let args = c .before .before .before .args in
+    (refl, λ readable. no-lines linesText 1 (commandsOf (scriptOf (args .script .now))) (args .place .now) (args .at))
 
 command-at-requires : tie.Need-command-at-requires Inv-loop μ-loop
 command-at-requires c κs = search needs
@@ -53,32 +58,33 @@ enum-told : tie.Need-enum-told Inv-loop μ-loop
 enum-told c = search needs
 
 same-length : tie.Need-same-length Inv-loop μ-loop
-same-length c = stored-long (c .before .before .before .before .loop .inv .stored)
+same-length c = c .before .before .before .before .loop .inv .0
 
 returns : tie.Need-returns Inv-loop μ-loop
 returns c =
     let called = c .before .before in
     let start = called .before .before .before .before .before .before in
-    absurd (never-wrong (start .args .script .now) (start .pre .0) (called .before .before .loop .k) (inside (called .before))
+    λ readable. absurd (never-wrong (start .args .script .now) readable (called .before .before .loop .k) (inside (called .before))
     (sym (c .enum-told .given .1) ∙ called .command-at .ensures))
 
 add-put-line : tie.Need-add-put-line Inv-loop μ-loop
 add-put-line c = search needs
 
 loop-again : tie.Need-loop-again Inv-loop μ-loop
+unfolding linesText
 loop-again c =
     let read = c .before .before .before .before .before in
     let now = read .before .before .before .before in
     let start = now .before .before .before .before in
-    one-line (commandsOf (scriptOf (start .args .script .now))) (now .loop .k) (now .loop .inv) (read .d .given .0 .0) (next-is read)
-    (c .before .before .put-line .ensures)
+    let k = now .loop .k in (
+      search needs,
+      λ readable.
+          one-line linesText 1 (commandsOf (scriptOf (start .args .script .now))) k (now .loop .inv .1 readable) (read .d .given .0 .0)
+          (lineText (k + 1) (read .d .given .0 .0)) (next-is read readable) refl (c .before .before .put-line .ensures),
+    )
 
 put-line-requires : tie.Need-put-line-requires Inv-loop μ-loop
-put-line-requires c κs =
-    let read = c .before .before in
-    let now = read .before .before .before .before in
-    let start = now .before .before .before .before in
-    line-ends (commandsOf (scriptOf (start .args .script .now))) (now .loop .k) (now .loop .inv) (read .d .given .0 .0) (next-is read) (start .pre .1)
+put-line-requires c κs = search needs
 
 add-k : tie.Need-add-k Inv-loop μ-loop
 add-k c = search needs
@@ -87,14 +93,16 @@ loop-less : tie.Need-loop-less Inv-loop μ-loop
 loop-less c = search needs
 
 same-length-2 : tie.Need-same-length-2 Inv-loop μ-loop
-same-length-2 c = stored-long (c .before .loop .inv .stored)
+same-length-2 c = c .before .loop .inv .0
 
 returns-2 : tie.Need-returns-2 Inv-loop μ-loop
+unfolding linesText
 returns-2 c =
     let now = c .before in
     let start = now .before .before .before .before in
-    all-lines (commandsOf (scriptOf (start .args .script .now))) (now .loop .k) (now .loop .inv)
-    (omega (arith, script-count (start .args .script .now) (start .pre .0), c .loop-test .left, now .before .commands .ensures))
+    λ readable.
+    all-lines linesText 1 (commandsOf (scriptOf (start .args .script .now))) (now .loop .k) (now .loop .inv .1 readable)
+    (omega (arith, script-count (start .args .script .now) readable, c .loop-test .left, now .before .commands .ensures)) refl
 
 pub put-lines-spec : {M : Type 1} → statement M
 put-lines-spec =

@@ -6,9 +6,8 @@ use mathlib.Core.List.{[], _∷_}
 use lib.ListN.{length}
 use Rattle.policy.specs.Judge.{verdictNumbers}
 use Rattle.listing.specs.Text.{spacedAll}
-use Rattle.listing.specs.Printing.{Ends}
 use Rattle.listing.proofs.Lengths.{one-more, none-yet}
-use Rattle.listing.proofs.Pieces.{all-first, all-rest, all-more, all-last}
+use Rattle.listing.proofs.Pieces.{all-more, all-last}
 use borrow.Author.Needs.{needs}
 use Rattle.listing.proofs.outcomes.put_values.Statement.{statement}
 use Rattle.listing.proofs.outcomes.put_values.Tie as tie
@@ -35,20 +34,6 @@ unordered c =
     one-more 30 (step ∷ rule ∷ []) 42 (omega arith)
     (one-more step (rule ∷ []) 21 (omega (arith, told)) (one-more rule [] 0 (omega (arith, told)) none-yet))
 
--- They end inside the longest text.
-broken-ends : (c : tie.After-number) →
-    let known = c .before .before .before in
-    Ends (known .before .before .before .args .at) (spacedAll (c .number .result ∷ known .v .given .0 .1 .0 ∷ []))
-broken-ends c = omega (arith, broken c, c .before .before .before .before .before .before .pre)
-
-elsewhere-ends : (c : tie.After-known-told2)
-    → Ends (c .before .before .before .before .args .at) (spacedAll (24 ∷ c .before .v2 .given .0 .0 ∷ []))
-elsewhere-ends c = omega (arith, elsewhere c, c .before .before .before .before .pre)
-
-unordered-ends : (c : tie.After-known-told3)
-    → Ends (c .before .before .before .before .args .at) (spacedAll (30 ∷ c .before .v3 .given .0 .0 ∷ c .before .v3 .given .0 .1 .0 ∷ []))
-unordered-ends c = omega (arith, unordered c, c .before .before .before .before .pre)
-
 enum-known-v : tie.Need-enum-known-v
 enum-known-v c = search needs
 
@@ -59,13 +44,10 @@ cast-put-spaced : tie.Need-cast-put-spaced
 cast-put-spaced c = search needs
 
 put-spaced-requires : tie.Need-put-spaced-requires
-put-spaced-requires c κs = all-first _ (c .number .result) (c .before .before .before .v .given .0 .1 .0 ∷ []) (broken-ends c)
+put-spaced-requires c κs = search needs
 
 put-spaced-requires-2 : tie.Need-put-spaced-requires-2
-put-spaced-requires-2 c κs =
-    let first = c .before .before .before in
-    let step = first .before .before .before .before .v .given .0 .1 .0 in
-    all-first _ step [] (all-rest (first .before .number .result) (step ∷ []) (first .put-spaced .ensures) (broken-ends (first .before)))
+put-spaced-requires-2 c κs = search needs
 
 enum-known-v-2 : tie.Need-enum-known-v-2
 enum-known-v-2 c = search needs
@@ -74,14 +56,10 @@ cast-put-spaced-2 : tie.Need-cast-put-spaced-2
 cast-put-spaced-2 c = search needs
 
 put-spaced-requires-3 : tie.Need-put-spaced-requires-3
-put-spaced-requires-3 c κs = let told = c .before in all-first _ 24 (told .before .v2 .given .0 .0 ∷ []) (elsewhere-ends told)
+put-spaced-requires-3 c κs = search needs
 
 put-spaced-requires-4 : tie.Need-put-spaced-requires-4
-put-spaced-requires-4 c κs =
-    let first = c .before .before .before in
-    let told = first .before .before in
-    let commands = told .before .v2 .given .0 .0 in
-    all-first _ commands [] (all-rest 24 (commands ∷ []) (first .put-spaced3 .ensures) (elsewhere-ends told))
+put-spaced-requires-4 c κs = search needs
 
 enum-known-v-3 : tie.Need-enum-known-v-3
 enum-known-v-3 c = search needs
@@ -105,28 +83,13 @@ cast-put-spaced-3 : tie.Need-cast-put-spaced-3
 cast-put-spaced-3 c = search needs
 
 put-spaced-requires-5 : tie.Need-put-spaced-requires-5
-put-spaced-requires-5 c κs =
-    let told = c .before in
-    all-first _ 30 (told .before .v3 .given .0 .0 ∷ told .before .v3 .given .0 .1 .0 ∷ []) (unordered-ends told)
+put-spaced-requires-5 c κs = search needs
 
 put-spaced-requires-6 : tie.Need-put-spaced-requires-6
-put-spaced-requires-6 c κs =
-    let first = c .before .before .before in
-    let told = first .before .before in
-    let step = told .before .v3 .given .0 .0 in
-    let rule = told .before .v3 .given .0 .1 .0 in
-    all-first _ step (rule ∷ []) (all-rest 30 (step ∷ rule ∷ []) (first .put-spaced5 .ensures) (unordered-ends told))
+put-spaced-requires-6 c κs = search needs
 
 put-spaced-requires-7 : tie.Need-put-spaced-requires-7
-put-spaced-requires-7 c κs =
-    let second = c .before .before .before in
-    let first = second .before .before .before .before in
-    let told = first .before .before in
-    let step = told .before .v3 .given .0 .0 in
-    let rule = told .before .v3 .given .0 .1 .0 in
-    all-first _ rule []
-    (all-rest step (rule ∷ []) (second .put-spaced6 .ensures)
-    (all-rest 30 (step ∷ rule ∷ []) (first .put-spaced5 .ensures) (unordered-ends told)))
+put-spaced-requires-7 c κs = search needs
 
 enum-told : tie.Need-enum-told
 enum-told c = search needs
@@ -135,7 +98,7 @@ cast-put-spaced-4 : tie.Need-cast-put-spaced-4
 cast-put-spaced-4 c = search needs
 
 put-spaced-requires-8 : tie.Need-put-spaced-requires-8
-put-spaced-requires-8 c κs = all-first _ 31 [] (omega (arith, one-more 31 [] 0 (omega arith) none-yet, c .before .before .before .before .pre))
+put-spaced-requires-8 c κs = search needs
 
 enum-told-2 : tie.Need-enum-told-2
 enum-told-2 c = search needs
@@ -144,7 +107,7 @@ cast-put-spaced-5 : tie.Need-cast-put-spaced-5
 cast-put-spaced-5 c = search needs
 
 put-spaced-requires-9 : tie.Need-put-spaced-requires-9
-put-spaced-requires-9 c κs = all-first _ 32 [] (omega (arith, one-more 32 [] 0 (omega arith) none-yet, c .before .before .before .before .pre))
+put-spaced-requires-9 c κs = search needs
 
 same-length : tie.Need-same-length
 same-length c = search needs

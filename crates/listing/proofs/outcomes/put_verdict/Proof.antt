@@ -1,11 +1,8 @@
 -- `put_verdict` meets its contract: the word, the numbers and the end of the line, one behind the other. Assumes nothing.
 use native.Mathlib.Omega.{arith}
-use mathlib.Core.List.{[], _∷_}
-use lib.ListN.{length-append}
-use Rattle.policy.specs.Judge.{verdictNumbers}
-use Rattle.deployment.proofs.Storing.{stored-more}
 use Rattle.listing.proofs.Lengths.{verdict-short}
-use Rattle.listing.specs.Text.{text, spacedAll, verdictText}
+use Rattle.listing.proofs.Pieces.{puts-more, puts-whole}
+use Rattle.listing.specs.Text.{text, verdictText}
 use borrow.Author.Needs.{needs}
 use Rattle.listing.proofs.outcomes.put_verdict.Statement.{statement}
 use Rattle.listing.proofs.outcomes.put_verdict.Tie as tie
@@ -17,16 +14,13 @@ put-word-requires : tie.Need-put-word-requires
 put-word-requires c κs = search needs
 
 put-values-requires : tie.Need-put-values-requires
-put-values-requires c κs = omega (arith, c .before .before .before .put-word .ensures .end)
+put-values-requires c κs = search needs
 
 slice-aggregate-put-word-2 : tie.Need-slice-aggregate-put-word-2
 slice-aggregate-put-word-2 c = search needs
 
 put-word-requires-2 : tie.Need-put-word-requires-2
-put-word-requires-2 c κs =
-    let values = c .before .before .before .before in
-    let word = values .before .before .before .before in
-    omega (arith, word .put-word .ensures .end, values .put-values .ensures .put .end, values .put-values .ensures .short)
+put-word-requires-2 c κs = search needs
 
 same-length : tie.Need-same-length
 same-length c = search needs
@@ -36,10 +30,9 @@ unfolding verdictText text
 returns c =
     let values = c .before .before .before .before .before .before .before in
     let word = values .before .before .before .before in
-    record {
-      put = stored-more (word .put-word .ensures) (stored-more (values .put-values .ensures .put) (c .before .before .put-word2 .ensures));
-      ends = omega (arith, verdict-short (word .before .before .before .before .args .v) (values .put-values .ensures .short));
-    }
+    puts-whole (puts-more (word .put-word .ensures) (puts-more (values .put-values .ensures .put) (c .before .before .put-word2 .ensures)))
+    (omega (arith, verdict-short (word .before .before .before .before .args .v) (values .put-values .ensures .short)))
+    (omega arith)
 
 pub put-verdict-spec : {M : Type 1} → statement M
 put-verdict-spec =

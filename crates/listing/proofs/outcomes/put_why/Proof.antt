@@ -1,8 +1,8 @@
 -- `put_why` meets its contract: the word and the number, the position and the end of the line, one behind the other. Assumes nothing.
 use native.Mathlib.Omega.{arith}
-use Rattle.deployment.proofs.Storing.{stored-more}
 use Rattle.listing.specs.Text.{text, named, refusedText}
-use Rattle.listing.proofs.Lengths.{spaced-short, refused-short}
+use Rattle.listing.proofs.Lengths.{refused-short}
+use Rattle.listing.proofs.Pieces.{puts-more, puts-whole}
 use borrow.Author.Needs.{needs}
 use Rattle.listing.proofs.outcomes.put_why.Statement.{statement}
 use Rattle.listing.proofs.outcomes.put_why.Tie as tie
@@ -20,10 +20,10 @@ returns c =
     let position = c .before .before .before .before .before .before .before in
     let why = at-why position in
     rw (← why .before .before .before .number .ensures)
-    (record {
-      put = stored-more (why .put-named .ensures) (stored-more (position .put-named2 .ensures) (c .before .before .put-word .ensures));
-      ends = rw (why .before .before .before .number .ensures) (omega (arith, refused-short (record { why = start why .args .why; at = start why .args .at }) (omega (arith, start why .fits .at))));
-    })
+    (puts-whole (puts-more (why .put-named .ensures) (puts-more (position .put-named2 .ensures) (c .before .before .put-word .ensures)))
+    (rw (why .before .before .before .number .ensures)
+    (omega (arith, refused-short (record { why = start why .args .why; at = start why .args .at }) (omega (arith, start why .fits .at)))))
+    (omega arith))
 
 number-requires : tie.Need-number-requires
 number-requires c κs = search needs
@@ -35,30 +35,19 @@ slice-aggregate-put-named : tie.Need-slice-aggregate-put-named
 slice-aggregate-put-named c = search needs
 
 put-named-requires : tie.Need-put-named-requires
-put-named-requires c κs = omega (arith, spaced-short (c .before .before .number .result) (omega arith))
+put-named-requires c κs = search needs
 
 slice-aggregate-put-named-2 : tie.Need-slice-aggregate-put-named-2
 slice-aggregate-put-named-2 c = search needs
 
 put-named-requires-2 : tie.Need-put-named-requires-2
-put-named-requires-2 c κs =
-    let why = c .before .before .before .before in
-    omega (arith, why .put-named .ensures .end, spaced-short (why .before .before .before .number .result) (omega arith), spaced-short (start why .args .at) (omega (arith, start why .fits .at)))
+put-named-requires-2 c κs = search needs
 
 slice-aggregate-put-word : tie.Need-slice-aggregate-put-word
 slice-aggregate-put-word c = search needs
 
 put-word-requires : tie.Need-put-word-requires
-put-word-requires c κs =
-    let position = c .before .before .before .before in
-    let why = at-why position in
-    omega (
-      arith,
-      position .put-named2 .ensures .end,
-      why .put-named .ensures .end,
-      spaced-short (why .before .before .before .number .result) (omega arith),
-      spaced-short (start why .args .at) (omega (arith, start why .fits .at)),
-    )
+put-word-requires c κs = search needs
 
 same-length : tie.Need-same-length
 same-length c = search needs

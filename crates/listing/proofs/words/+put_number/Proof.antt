@@ -1,14 +1,11 @@
 -- `put_number` meets its contract: the digits of the tenth part, then the last digit. The measure is the number. Assumes nothing.
-use Prim.Native.Nat.{ℕ, _/_, _%_, _+_, _<_}
+use Prim.Native.Nat.{ℕ, _<_}
 use native.Mathlib.Omega.{arith}
-use mathlib.Core.List.{[], _∷_}
 use borrow.Author.Needs.{needs}
 use borrow.Fn.Kinds.{In}
 use borrow.Fn.PlainCycle.{Measures, is, falls, and}
-use Rattle.deployment.proofs.Storing.{stored-more}
-use Rattle.listing.specs.Text.{decimal}
 use Rattle.listing.proofs.Digits.{decimal-one, decimal-more}
-use Rattle.listing.proofs.Pieces.{ends-first, ends-rest}
+use Rattle.listing.proofs.Pieces.{puts-more}
 use Rattle.listing.proofs.words.put_number.Reads as put-number
 use Rattle.listing.proofs.words.put_number.Kinds as put-number-kinds
 use Rattle.listing.proofs.words.+put_number.Lts-put_number as put-number-lts
@@ -31,10 +28,7 @@ put-number-put-digit-requires : (t : ℕ) → put-number-lts.Need-put-digit-requ
   put-number-below t,
   put-number.Post,
 ) (put-number-at t) put-number.Post
-put-number-put-digit-requires t c κs =
-    let start = c .before .before .before in
-    let one = rw (decimal-one (start .args .n) (c .before .if1 .taken)) at (start .pre .1) in
-    (omega arith, c .before .if1 .taken)
+put-number-put-digit-requires t c κs = search needs
 
 put-number-same-length : (t : ℕ) → put-number-lts.Need-same-length (
   put-digit-reads.Asked,
@@ -62,11 +56,8 @@ put-number-put-number-requires : (t : ℕ) → put-number-lts.Need-put-number-re
 ) (put-number-at t) put-number.Post
 put-number-put-number-requires t c κs =
     let start = c .before .before .before in
-    let n = start .args .n in
-    let more = c .before .if1 .left in (
-      omega (arith, start .pre .0),
-      ends-first (start .args .at) (decimal (n / 10)) ((48 + n % 10) ∷ []) (rw (decimal-more n more) at (start .pre .1)),
-    )
+    let more = c .before .if1 .left in
+    (omega (arith, start .pre .0), start .pre .1)
 
 put-number-put-digit-requires-2 : (t : ℕ) → put-number-lts.Need-put-digit-requires-2 (
   put-digit-reads.Asked,
@@ -75,12 +66,7 @@ put-number-put-digit-requires-2 : (t : ℕ) → put-number-lts.Need-put-digit-re
   put-number.Post,
 ) (put-number-at t) put-number.Post
 put-number-put-digit-requires-2 t c κs =
-    let called = c .before .before .before in
-    let start = called .before .before .before .before in
-    let n = start .args .n in
-    let ends = ends-rest (decimal (n / 10)) ((48 + n % 10) ∷ []) (called .put-number .ensures)
-    (rw (decimal-more n (called .before .before .if1 .left)) at (start .pre .1)) in
-    (omega arith, omega arith)
+    omega arith
 
 put-number-same-length-2 : (t : ℕ) → put-number-lts.Need-same-length-2 (
   put-digit-reads.Asked,
@@ -100,7 +86,7 @@ put-number-returns-2 t c =
     let called = c .before .before .before .before .before .before in
     let start = called .before .before .before .before in
     rw (decimal-more (start .args .n) (called .before .before .if1 .left))
-    (stored-more (called .put-number .ensures) (c .before .before .put-digit2 .ensures))
+    (puts-more (called .put-number .ensures) (c .before .before .put-digit2 .ensures))
 
 pub +put-number-spec : {M : Type 1} → statement M
 +put-number-spec = close μ-put-number λ t. put-number-lts.spec (

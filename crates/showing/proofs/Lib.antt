@@ -1,0 +1,11 @@
+-- Laws of the text, by which its printers are proved.
+pub mod Numbers
+pub mod RangeForms
+pub mod RuleLines
+pub mod NumberLines
+pub mod Scripts
+pub mod Lengths
+pub mod ShownTexts
+pub mod Claims
+pub mod Answers
+pub mod Examples

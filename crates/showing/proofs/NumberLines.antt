@@ -1,0 +1,28 @@
+-- The numbers of a list on one line: the first, then each behind a blank, then the end of the line. Assumes nothing.
+use Prim.Native.Nat.{ℕ, _≤_}
+use native.Mathlib.Omega.{arith}
+use mathlib.Core.Path.{_≡_, refl}
+use mathlib.Core.List.{List, [], _∷_, _++_}
+use lib.ListN.{length, getD, drop}
+use Rattle.listing.specs.Text.{text, decimal, spacedAll}
+use Rattle.listing.specs.Printing.{Puts}
+use Rattle.listing.proofs.Lines.{Lines}
+use Rattle.showing.specs.Text.{numbersText}
+
+-- the text of numbers that follow, wherever they stand
+abbrev pub following : ℕ → List ℕ → List ℕ
+following k numbers = spacedAll numbers
+
+pub none-following : (numbers old : List ℕ) (at : ℕ) → Lines following 0 numbers (spacedAll (drop 1 numbers)) old at old at 1
+none-following numbers old at = record { written = []; put = λ fits. record { place = refl; end = omega arith }; left = refl }
+
+pub no-numbers : (numbers place : List ℕ) (at : ℕ) → length numbers ≡ 0 → Puts place at (numbersText numbers) place at
+unfolding numbersText
+no-numbers [] place at none = λ fits. record { place = refl; end = omega arith }
+no-numbers (n ∷ numbers) place at none = absurd (omega arith)
+
+pub numbers-line : (numbers : List ℕ) → 1 ≤ length numbers
+    → decimal (getD numbers 0 0) ++ (spacedAll (drop 1 numbers) ++ text "\n") ≡ numbersText numbers
+unfolding numbersText
+numbers-line [] some = absurd (omega arith)
+numbers-line (n ∷ numbers) some = refl
