@@ -34,7 +34,7 @@ AcceptedWrittenAgain =
     (file : List ℕ) (c : Contents) (place : List ℕ) → AreBytes file → readFile file ≡ accepted c
     → writtenValues (valuesOf c) place ≡ writing file place
 
--- so are the parts of an accepted file, gathered
+-- and so do its parts, gathered
 abbrev pub GatheredWrittenAgain : Type 0
 GatheredWrittenAgain =
     (file : List ℕ) (layout : Layout) (place : List ℕ) → AreBytes file → fileRead file ≡ Accepted layout
