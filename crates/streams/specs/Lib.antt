@@ -1,2 +1,3 @@
--- What the contracts of reading cite.
+-- What the contracts of reading cite, and what is claimed of it.
 pub mod Reading
+pub mod Claims
