@@ -1,4 +1,4 @@
--- Flows and decisions in bytes: how many there are, the k-th of them by its part of the bytes, and a decision read back from its three.
+-- Flows and decisions in bytes: how many there are, the k-th of them by its part of the bytes, and both read back.
 -- Assumes nothing.
 use Prim.Native.Nat.{ℕ, zero, suc, _+_, _*_, _/_, _≤_, _<_}
 use native.Mathlib.Nat.{mul-comm}
@@ -6,7 +6,7 @@ use native.Mathlib.Omega.{arith}
 use mathlib.Core.Path.{_≡_, refl, sym, _∙_, ap}
 use mathlib.Core.List.{List, [], _∷_, _++_, map, append-assoc}
 use lib.ListN.{length, take, drop, getD, length-append, length-drop, length-map, List·getD-map}
-use lib.Seq.{take-at, drop-at, take-all, drop-drop, take-append-le, drop-append-le}
+use lib.Seq.{take-at, drop-at, drop-drop, take-append-le, drop-append-le}
 use Rattle.policy.specs.declared.Action.{Action}
 use Rattle.policy.specs.declared.Action.the-variants.{Deny, Permit}
 use Rattle.policy.specs.declared.Decision.{Decision}
@@ -17,12 +17,13 @@ use Rattle.deployment.specs.Flows.{
   flow-bytes,
   decision-bytes,
   flowOf,
+  flowBytes,
   flowsOf,
   decisionBytes,
   decisionOf,
   decisionsBytes,
 }
-use Rattle.deployment.specs.Claims.{DecisionReadsBack}
+use Rattle.deployment.specs.Claims.{FlowReadsBack, DecisionReadsBack}
 use Rattle.deployment.proofs.Bytes.{length-bytes, number-bytes, length-chunks}
 use Rattle.deployment.proofs.Records.{read-at}
 use Rattle.deployment.proofs.Fields.{joined-snoc, map-snoc}
@@ -88,13 +89,25 @@ action-back Deny = refl
 action-back Permit = refl
 
 pub decision-reads-back : DecisionReadsBack
-unfolding decisionOf decisionBytes part
+unfolding decisionOf decisionBytes part bytesOf
 decision-reads-back d h =
-    let first = bytesOf 1 (actionNumber (d .action)) in
-    let others = bytesOf 2 (d .place) in
-    let one : length first ≡ 1 = length-bytes 1 (actionNumber (d .action)) in
-    let two : length others ≡ 2 = length-bytes 2 (d .place) in
-    let action : actionOf (number (take 1 (first ++ others))) ≡ d .action = rw (take-at first others 1 one) (action-back (d .action)) in
-    let place : number (take 2 (drop 1 (first ++ others))) ≡ d .place =
-    rw (drop-at first others 1 one, take-all 2 others (omega arith)) (number-bytes 2 (d .place) (omega arith)) in
-    λ j. record { action = action j; place = place j }
+    let place : number (part 1 2 (decisionBytes d)) ≡ d .place = number-bytes 2 (d .place) h in
+    λ j. record { action = action-back (d .action) j; place = place j }
+
+pub flow-reads-back : FlowReadsBack
+unfolding flowOf flowBytes part bytesOf
+flow-reads-back f fits =
+    let protocol : number (part 0 1 (flowBytes f)) ≡ f .protocol = number-bytes 1 (f .protocol) (fits .protocol) in
+    let source : number (part 1 4 (flowBytes f)) ≡ f .source = number-bytes 4 (f .source) (fits .source) in
+    let source-port : number (part 5 2 (flowBytes f)) ≡ f .«source_port» = number-bytes 2 (f .«source_port») (fits .source-port) in
+    let destination : number (part 7 4 (flowBytes f)) ≡ f .destination = number-bytes 4 (f .destination) (fits .destination) in
+    let destination-port : number (part 11 2 (flowBytes f)) ≡ f .«destination_port» =
+    number-bytes 2 (f .«destination_port») (fits .destination-port) in
+    λ j.
+    record {
+      protocol = protocol j;
+      source = source j;
+      «source_port» = source-port j;
+      destination = destination j;
+      «destination_port» = destination-port j;
+    }

@@ -7,14 +7,15 @@ use mathlib.Core.List.{List, [], _∷_, map}
 use mathlib.Core.Option.{Option, none, some}
 use lib.ListN.{length, take}
 use Rattle.policy.specs.declared.Decision.{Decision}
+use Rattle.policy.specs.declared.Flow.{Flow}
 use Rattle.deployment.specs.Checked.{whyNumber, refusalNumbers}
 use Rattle.deployment.specs.Bytes.{joined}
 use Rattle.deployment.specs.Values.{Script, ruleBytes, numbersBytes, scriptBytes}
 use Rattle.deployment.specs.Contents.{Contents}
 use Rattle.deployment.specs.File.{Reading, accepted, refused, readingNumbers, readFile, readToJudge, fileOf}
 use Rattle.deployment.specs.FieldValues.{FieldValues, readValues, writtenNumbers}
-use Rattle.deployment.specs.Flows.{decisionOf, decisionBytes}
-use Rattle.deployment.specs.Properties.{AreBytes, IfThere, Valid, TurnedAway, ValuesFail}
+use Rattle.deployment.specs.Flows.{flowOf, flowBytes, decisionOf, decisionBytes}
+use Rattle.deployment.specs.Properties.{AreBytes, Numbered, IfThere, Valid, TurnedAway, ValuesFail}
 use Rattle.deployment.specs.declared.Why.{Why}
 use Rattle.deployment.specs.declared.Refusal.{Refusal}
 use Rattle.deployment.specs.declared.Written.{Written}
@@ -97,6 +98,10 @@ LongFile = (file : List ℕ) → AreBytes file → readFile file ≡ readFile (t
 
 abbrev pub LongFileToJudge : Type 0
 LongFileToJudge = (file : List ℕ) → AreBytes file → readToJudge file ≡ readToJudge (take deciding file)
+
+-- A flow reads back from its thirteen bytes.
+abbrev pub FlowReadsBack : Type 0
+FlowReadsBack = (flow : Flow) → Numbered flow → flowOf (flowBytes flow) ≡ flow
 
 -- A decision reads back from its three bytes: a place has two, more than a policy can need.
 abbrev pub DecisionReadsBack : Type 0

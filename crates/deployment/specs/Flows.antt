@@ -26,6 +26,11 @@ flowOf value =
       «destination_port» = number (part 11 2 value);
     }
 
+unfoldable pub flowBytes : Flow → List ℕ
+flowBytes f =
+    bytesOf 1 (f .protocol)
+    ++ (bytesOf 4 (f .source) ++ (bytesOf 2 (f .«source_port») ++ (bytesOf 4 (f .destination) ++ bytesOf 2 (f .«destination_port»))))
+
 -- flows one after another
 unfoldable pub flowsOf : List ℕ → List Flow
 flowsOf value = map flowOf (chunks flow-bytes (length value / flow-bytes) value)

@@ -12,6 +12,7 @@ use Rattle.policy.specs.Command.{coded, commandType}
 use Rattle.policy.specs.Properties.{Distinct}
 use Rattle.policy.specs.Claims.{Policy, Keepable}
 use Rattle.policy.specs.declared.Command.{Command}
+use Rattle.policy.specs.declared.Flow.{Flow}
 use Rattle.deployment.specs.Bytes.{number, part, joined}
 use Rattle.deployment.specs.Values.{
   Script,
@@ -57,6 +58,14 @@ pub record Recordable (rule : Rule) : Type 0 where
   pub source-port : Sized 2 (rule .source-port)
   pub destination : Sized 4 (rule .destination)
   pub destination-port : Sized 2 (rule .destination-port)
+
+-- "protocol (0 to 255), source address (32 bits), source port (16), destination address (32), destination port (16)"
+pub record Numbered (flow : Flow) : Type 0 where
+  pub protocol : flow .protocol < 256 ^ 1
+  pub source : flow .source < 256 ^ 4
+  pub source-port : flow .«source_port» < 256 ^ 2
+  pub destination : flow .destination < 256 ^ 4
+  pub destination-port : flow .«destination_port» < 256 ^ 2
 
 -- "at most 1,024 rules in the catalogue", none equal to an earlier one
 abbrev pub Unlike : List Rule → Type 0
