@@ -252,15 +252,6 @@ fn read_file(file: &[u8], flow: Flow) {
     print_judged(files::judge(file));
 }
 
-fn write_file(file: &[u8], place: &mut [u8]) {
-    fill(place);
-    print_ran(files::replay(file, place), place);
-    fill(place);
-    print_planned(b"plan 1 ", files::plan_one(file, place), place);
-    fill(place);
-    print_planned(b"plan 2 ", files::plan_two(file, place), place);
-}
-
 fn decide_file(file: &[u8], flows: &[u8], place: &mut [u8]) {
     fill(place);
     print_written(
@@ -274,6 +265,21 @@ fn decide_file(file: &[u8], flows: &[u8], place: &mut [u8]) {
         files::decide_flows(file, true, flows, place),
         place,
     );
+}
+
+fn plan_file(file: &[u8], place: &mut [u8]) {
+    fill(place);
+    print_ran(files::replay(file, place), place);
+    fill(place);
+    print_planned(b"plan 1 ", files::plan_one(file, place), place);
+    fill(place);
+    print_planned(b"plan 2 ", files::plan_two(file, place), place);
+}
+
+fn write_file(case: &[u8], place: &mut [u8]) {
+    let file = part(case, FILE);
+    plan_file(file, place);
+    decide_file(file, part(case, FILE_FLOWS), place);
 }
 
 fn check_lists(case: &[u8]) -> Checking {
@@ -342,15 +348,6 @@ fn read_lists(case: &[u8], flow: Flow) {
     print_judged(judge_lists(case));
 }
 
-fn write_lists(case: &[u8], place: &mut [u8]) {
-    fill(place);
-    print_ran(replay_lists(case, place), place);
-    fill(place);
-    print_planned(b"plan 1 ", plan_one_lists(case, place), place);
-    fill(place);
-    print_planned(b"plan 2 ", plan_two_lists(case, place), place);
-}
-
 fn flows_lists(case: &[u8], list: usize, place: &mut [u8]) -> Written {
     lists::decide_flows(
         part(case, RULES),
@@ -371,6 +368,20 @@ fn decide_lists(case: &[u8], place: &mut [u8]) {
     print_written(b"flows by target ", flows_lists(case, TARGET, place), place);
 }
 
+fn plan_lists(case: &[u8], place: &mut [u8]) {
+    fill(place);
+    print_ran(replay_lists(case, place), place);
+    fill(place);
+    print_planned(b"plan 1 ", plan_one_lists(case, place), place);
+    fill(place);
+    print_planned(b"plan 2 ", plan_two_lists(case, place), place);
+}
+
+fn write_lists(case: &[u8], place: &mut [u8]) {
+    plan_lists(case, place);
+    decide_lists(case, place);
+}
+
 // The lent place is the first bytes of a room that has as many as two bytes can say.
 fn print_case(case: &[u8]) {
     let mut room = [LENT; 65536];
@@ -378,12 +389,10 @@ fn print_case(case: &[u8]) {
     if byte(case, OVER_LISTS) == 1 {
         read_lists(case, flow(case));
         write_lists(case, &mut room[..size]);
-        decide_lists(case, &mut room[..size]);
     } else {
         let file = part(case, FILE);
         read_file(file, flow(case));
-        write_file(file, &mut room[..size]);
-        decide_file(file, part(case, FILE_FLOWS), &mut room[..size]);
+        write_file(case, &mut room[..size]);
     }
 }
 
