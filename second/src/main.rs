@@ -37,11 +37,11 @@ struct Takes(usize, &'static [&'static str], &'static [&'static str]);
 
 fn taken(name: &str) -> Option<Takes> {
     Some(match name {
-        "planlist" | "judgelist" => Takes(0, &[], &[]),
+        "planlist" | "judgelist" | "showlist" => Takes(0, &[], &[]),
         "vectors" | "cases" => Takes(1, &[], &[]),
         "brute" => Takes(0, &["--rules"], &[]),
         "inputs" => Takes(0, &["--seed", "--count", "--dir"], &[]),
-        "compare" => Takes(0, &["--seed", "--count", "--planlist", "--judgelist"], &["--library"]),
+        "compare" => Takes(0, &["--seed", "--count", "--planlist", "--judgelist", "--showlist"], &["--library"]),
         "bench" => Takes(0, &["--only"], &[]),
         _ => return None,
     })
@@ -150,7 +150,7 @@ fn other_side(arguments: &[String]) -> Result<compare::Other, Box<dyn Error>> {
         (Some(planlist), Some(judgelist)) if !library => {
             Ok(compare::Other::Programs(compare::Programs::new(planlist, judgelist)))
         }
-        _ => Err(Misused("either --library, or --planlist and --judgelist together".into()).into()),
+        _ => Err("either --library, or --planlist and --judgelist together".into()),
     }
 }
 
@@ -173,7 +173,8 @@ fn run(arguments: &[String]) -> Outcome {
         "inputs" => write_inputs(rest),
         "compare" => run_compare(rest),
         "cases" => in_folder(rest, cases::run),
-        _ => run_bench(rest),
+        "bench" => run_bench(rest),
+        _ => Err(Misused(format!("there is no command {name}")).into()),
     }
 }
 
