@@ -150,7 +150,7 @@ fn other_side(arguments: &[String]) -> Result<compare::Other, Box<dyn Error>> {
         (Some(planlist), Some(judgelist)) if !library => {
             Ok(compare::Other::Programs(compare::Programs::new(planlist, judgelist)))
         }
-        _ => Err("either --library, or --planlist and --judgelist together".into()),
+        _ => Err(Misused("either --library, or --planlist and --judgelist together".into()).into()),
     }
 }
 
