@@ -246,6 +246,13 @@ static void check_judge_file(void) {
 
 #define TEXT(words) (const uint8_t *)words, sizeof words - 1
 
+/* The first example in words. */
+#define ANY "source any port any destination any port any\n"
+#define SHOWN_TEXT                                                                                                                             \
+    "rules 5\n0 permit protocol 0 " ANY "1 deny protocol 1 " ANY "2 permit protocol 2 " ANY "3 deny protocol 3 " ANY "4 permit protocol 4 " ANY    \
+    "initial 4\n0 1 2 3\ntarget 4\n1 0 4 3\nkeep absent\nscript absent\n"
+enum { SHOWN = sizeof SHOWN_TEXT - 1 };
+
 static void check_text(void) {
     first_example();
     told("plan's text", pageoriole_plan_text(FILE_MADE, PLACE, ANSWER), PAGEORIOLE_DONE, VALUES(164));
@@ -265,6 +272,16 @@ static void check_text(void) {
     holds("judge's text, 13", NOTHING);
     told("plan's text, 3", pageoriole_plan_text(NOTHING, PLACE, ANSWER), PAGEORIOLE_DONE, VALUES(15));
     holds("plan's text, 3", TEXT("refused 3 at 0\n"));
+}
+
+static void check_show_text(void) {
+    first_example();
+    told("file's text", pageoriole_show_text(FILE_MADE, PLACE, ANSWER), PAGEORIOLE_DONE, VALUES(SHOWN));
+    holds("file's text", TEXT(SHOWN_TEXT));
+    told("file's text, 13", pageoriole_show_text(made, made_size, place, SHOWN - 1, ANSWER), PAGEORIOLE_ROOM, VALUES(SHOWN));
+    holds("file's text, 13", NOTHING);
+    told("file's text, 3", pageoriole_show_text(NOTHING, PLACE, ANSWER), PAGEORIOLE_DONE, VALUES(15));
+    holds("file's text, 3", TEXT("refused 3 at 0\n"));
 }
 
 /* ---- field values ---- */
@@ -537,6 +554,7 @@ int main(void) {
     check_plan_file();
     check_judge_file();
     check_text();
+    check_show_text();
     check_check();
     check_write();
     check_decide();

@@ -166,7 +166,8 @@ enum pageoriole_limit {
     PAGEORIOLE_FILE = 44045,     /* bytes: the longest file that is accepted, so the longest that is written */
     PAGEORIOLE_PLAN = 5124,      /* bytes: the longest script field that a planner writes */
     PAGEORIOLE_LIST = 2048,      /* bytes: the longest list that a replay writes */
-    PAGEORIOLE_TEXT = 65536,     /* bytes: no text is longer */
+    PAGEORIOLE_TEXT = 65536,     /* bytes: no text of pageoriole_plan_text or pageoriole_judge_text is longer */
+    PAGEORIOLE_SHOW_TEXT = 262144, /* bytes: no text of pageoriole_show_text is longer */
     PAGEORIOLE_STACK = 32768,    /* bytes of stack, for every function but one */
     PAGEORIOLE_STACK_TEXT = 36864 /* bytes of stack, for pageoriole_plan_text */
 };
@@ -369,6 +370,9 @@ uint32_t pageoriole_plan_text(const uint8_t *file, size_t file_size, uint8_t *pl
 
 /* What `judgelist` prints for the file: the verdict's line, or the refusal's. */
 uint32_t pageoriole_judge_text(const uint8_t *file, size_t file_size, uint8_t *place, size_t place_size, uint64_t *answer, size_t answer_words);
+
+/* What `showlist` prints for the file: its rules, policies, keep list and script in words, or the refusal's line. */
+uint32_t pageoriole_show_text(const uint8_t *file, size_t file_size, uint8_t *place, size_t place_size, uint64_t *answer, size_t answer_words);
 
 /* ---- Field values as one struct ---- */
 

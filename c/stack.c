@@ -18,7 +18,7 @@ enum {
 static _Alignas(16) uint8_t stack[STACK];
 static uint8_t rules[PAGEORIOLE_RULES * PAGEORIOLE_RULE];
 static uint8_t flows[FLOWS * PAGEORIOLE_FLOW];
-static uint8_t place[PAGEORIOLE_TEXT];
+static uint8_t place[PAGEORIOLE_SHOW_TEXT];
 static uint64_t answer[PAGEORIOLE_ANSWER];
 
 /* One input: policies, keep list and script as field values, and the file of them. */
@@ -137,6 +137,7 @@ static void plan_two(void) { number = pageoriole_plan_two(VALUES, true, SCRIPT_N
 static void judge_file(void) { number = pageoriole_judge_file(FILE_NOW, ANSWER); }
 static void plan_text(void) { number = pageoriole_plan_text(FILE_NOW, PLACE, ANSWER); }
 static void judge_text(void) { number = pageoriole_judge_text(FILE_NOW, PLACE, ANSWER); }
+static void show_text(void) { number = pageoriole_show_text(FILE_NOW, PLACE, ANSWER); }
 static void judge(void) { number = pageoriole_judge(VALUES, SCRIPT_NOW, ANSWER); }
 
 /* Calls a function with the stack pointer at the end of the painted stack. */
@@ -178,7 +179,8 @@ int main(void) {
                  {"pageoriole_judge_file", judge_file, PAGEORIOLE_STACK},
                  {"pageoriole_judge", judge, PAGEORIOLE_STACK},
                  {"pageoriole_plan_text", plan_text, PAGEORIOLE_STACK_TEXT},
-                 {"pageoriole_judge_text", judge_text, PAGEORIOLE_STACK}};
+                 {"pageoriole_judge_text", judge_text, PAGEORIOLE_STACK},
+                 {"pageoriole_show_text", show_text, PAGEORIOLE_STACK}};
     const struct input *inputs[] = {&disjoint, &reversed, &same};
     bool accepted = true, within = true;
     make_rules();

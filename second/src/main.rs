@@ -175,7 +175,8 @@ fn run(arguments: &[String]) -> Outcome {
         "inputs" => write_inputs(rest),
         "compare" => run_compare(rest),
         "cases" => in_folder(rest, cases::run),
-        _ => run_bench(rest),
+        "bench" => run_bench(rest),
+        _ => Err(Misused(format!("there is no command {name}")).into()),
     }
 }
 
