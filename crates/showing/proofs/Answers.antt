@@ -1,6 +1,6 @@
 -- `show_text` itself, by its contract as the checker reads it: any two answers that it allows are equal, with every byte of the place; and a place
 -- of 262,144 bytes is never too small. Assumes nothing.
-use Prim.Native.Nat.{ℕ, _≤_}
+use Prim.Native.Nat.{_≤_}
 use native.Mathlib.Omega.{arith}
 use mathlib.Core.Path.{_≡_}
 use denote.Ref.{now}

@@ -1,9 +1,8 @@
 -- No text is longer than the longest one. The idea: a refusal's position is inside the file, so its line is short; what a file contains is
 -- bounded part by part. Assumes nothing.
-use Prim.Native.Nat.{ℕ, _≤_}
+use Prim.Native.Nat.{_≤_}
 use native.Mathlib.Omega.{arith}
 use mathlib.Core.Path.{_≡_, refl}
-use mathlib.Core.List.{List}
 use lib.ListN.{length}
 use Rattle.deployment.specs.File.{Reading, accepted, refused, readFile}
 use Rattle.deployment.proofs.Reader.{written-again}

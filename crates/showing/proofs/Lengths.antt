@@ -3,10 +3,10 @@
 use Prim.Native.Nat.{ℕ, suc, _+_, _*_, _^_, _/_, _%_, _≤_, _<_}
 use native.Mathlib.Nat.{mod-lt}
 use native.Mathlib.Omega.{arith}
-use mathlib.Core.Path.{_≡_, refl}
+use mathlib.Core.Path.{refl}
 use mathlib.Core.Logic.{inl, inr}
 use mathlib.Core.Bool.{_&&_}
-use mathlib.Core.List.{List, [], _∷_, _++_, List·Memᴰ, List·Memᴰ·head, List·Memᴰ·tail}
+use mathlib.Core.List.{List, [], _∷_, List·Memᴰ, List·Memᴰ·head, List·Memᴰ·tail}
 use mathlib.Core.Option.{Option, none, some}
 use lib.Dec.{eqb}
 use lib.ListN.{length, length-append}
@@ -17,7 +17,7 @@ use Rattle.policy.proofs.Tests.{byTest}
 use Rattle.deployment.specs.Bytes.{bytesOf}
 use Rattle.deployment.specs.Values.{Script}
 use Rattle.deployment.specs.Properties.{Sized, Recordable, Scripted, IfThere}
-use Rattle.listing.specs.Text.{text, decimal, spaced, spacedAll, named, linesText}
+use Rattle.listing.specs.Text.{text, decimal, spaced, spacedAll, named}
 use Rattle.listing.proofs.Digits.{length-decimal}
 use Rattle.listing.proofs.Lengths.{length-spaced, two-bytes-short, command-short, lines-short}
 use Rattle.showing.specs.Text.{dots, valueText, rangeText, actionText, endText, endsText, ruleText, rulesText, catalogueText, numbersText, listText}

@@ -1,7 +1,7 @@
 -- Worked examples of the text: contents with every form that a rule, a list and a script can take. Assumes nothing.
 use Prim.Native.Nat.{ℕ}
 use mathlib.Core.Path.{_≡_}
-use mathlib.Core.List.{List, [], _∷_}
+use mathlib.Core.List.{[], _∷_}
 use mathlib.Core.Option.{none, some}
 use Rattle.policy.specs.Rule.{Range, Rule}
 use Rattle.policy.specs.declared.Action.the-variants.{Deny, Permit}

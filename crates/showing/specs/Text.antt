@@ -21,7 +21,13 @@ dots [] = []
 dots (b ∷ []) = decimal b
 dots (b ∷ c ∷ bytes) = decimal b ++ (text "." ++ dots (c ∷ bytes))
 
--- how many bytes an address has
+-- how many bytes each number of a rule has
+abbrev pub protocol-bytes : ℕ
+protocol-bytes = 1
+
+abbrev pub port-bytes : ℕ
+port-bytes = 2
+
 abbrev pub address-bytes : ℕ
 address-bytes = 4
 
@@ -43,7 +49,7 @@ actionText Deny = text " deny"
 
 -- an end of a flow: its addresses and its ports: `10.0.0.0-10.0.0.255 port any`
 unfoldable pub endText : Range → Range → List ℕ
-endText address port = rangeText 4 address ++ (text " port " ++ rangeText 2 port)
+endText address port = rangeText address-bytes address ++ (text " port " ++ rangeText port-bytes port)
 
 -- both ends of a rule, and the end of its line
 unfoldable pub endsText : Rule → List ℕ
@@ -60,7 +66,7 @@ ruleText n rule =
     decimal n
     ++ (actionText (rule .action)
     ++ (text " protocol "
-    ++ (rangeText 1 (rule .protocol)
+    ++ (rangeText protocol-bytes (rule .protocol)
     ++ endsText rule)))
 
 -- a line for each rule; the first argument is the number of the first

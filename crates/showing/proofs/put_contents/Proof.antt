@@ -2,7 +2,6 @@
 -- Assumes nothing.
 use native.Mathlib.Omega.{arith}
 use mathlib.Core.Path.{_≡_, sym, _∙_}
-use Rattle.deployment.specs.Contents.{Contents}
 use Rattle.deployment.specs.File.{accepted, readFile}
 use Rattle.deployment.proofs.Bytes.{elements-are-bytes}
 use Rattle.reader.proofs.FileAnswers.{Holds, file-holds}

@@ -1,6 +1,5 @@
 -- `put_command` meets its contract: each case is the definition's own. Assumes nothing.
-use mathlib.Core.List.{_∷_}
-use Rattle.listing.specs.Text.{text, spaced, named, commandText}
+use Rattle.listing.specs.Text.{text, named, commandText}
 use Rattle.listing.proofs.Pieces.{puts-more}
 use borrow.Author.Needs.{needs}
 use Rattle.listing.proofs.commands.put_command.Statement.{statement}

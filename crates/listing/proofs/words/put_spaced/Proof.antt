@@ -1,6 +1,5 @@
 -- `put_spaced` meets its contract: a blank, then the number. Assumes nothing.
-use mathlib.Core.List.{[], _∷_}
-use Rattle.listing.specs.Text.{text, decimal, spaced}
+use Rattle.listing.specs.Text.{text, spaced}
 use Rattle.listing.proofs.Pieces.{puts-more}
 use borrow.Author.Needs.{needs}
 use Rattle.listing.proofs.words.put_spaced.Statement.{statement}

@@ -1,5 +1,4 @@
 -- `put_bounds` meets its contract: the tests tell which of the three forms it is. Assumes nothing.
-use native.Mathlib.Omega.{arith}
 use mathlib.Core.Path.{_≡_}
 use borrow.Author.Tests.{eqb-true, eqb-false}
 use mathlib.Core.Logic.{inl, inr}

@@ -1,8 +1,6 @@
 -- `put_action` meets its contract: the action is the rule's first byte. Assumes nothing.
 use native.Mathlib.Omega.{arith}
-use mathlib.Core.Path.{_≡_, _∙_}
 use borrow.Author.Tests.{ne-eqb}
-use Rattle.policy.specs.declared.Action.the-variants.{Deny, Permit}
 use Rattle.deployment.specs.Values.{actionOf, ruleOf}
 use Rattle.deployment.proofs.Records.{first-byte}
 use Rattle.listing.specs.Text.{text}

@@ -1,7 +1,4 @@
 -- `put_catalogue` meets its contract: the count, the end of the line and the rules, one behind the other. Assumes nothing.
-use mathlib.Core.Path.{_≡_, sym}
-use lib.ListN.{length, take}
-use Rattle.deployment.specs.Catalogue.{catalogueOf}
 use Rattle.reader.proofs.Rules.{first-count}
 use Rattle.listing.specs.Text.{text, named}
 use Rattle.listing.proofs.Pieces.{puts-more}

@@ -1,15 +1,14 @@
 -- `put_rules` meets its contract. The loop's invariant: the lines of the first k rules stand from the start on, and with those that are left they are
 -- all lines. The measure is how many rules are left. Assumes nothing.
-use Prim.Native.Nat.{ℕ, suc, _+_, _*_, _-_, _<_, _≤_}
+use Prim.Native.Nat.{ℕ, _+_, _*_, _-_, _≤_}
 use native.Mathlib.Nat.{add-zero}
 use native.Mathlib.Omega.{arith}
-use mathlib.Core.Path.{_≡_, refl, _∙_, ap}
-use mathlib.Core.List.{List, [], _∷_}
+use mathlib.Core.Path.{_≡_, refl}
+use mathlib.Core.List.{List}
 use lib.ListN.{length, take, drop}
 use Rattle.policy.specs.Rule.{Rule}
 use Rattle.deployment.specs.Values.{ruleOf}
 use Rattle.deployment.specs.Catalogue.{catalogueOf}
-use Rattle.deployment.proofs.Records.{part-between}
 use Rattle.reader.proofs.Rules.{first-count, first-fits}
 use Rattle.listing.proofs.Lines.{Lines, no-lines, one-line, all-lines}
 use Rattle.showing.specs.Text.{ruleText, rulesText}
