@@ -4,6 +4,7 @@ pub mod Values
 pub mod Records
 pub mod Tests
 pub mod Fields
+pub mod Taken
 pub mod ReadBack
 pub mod Reader
 pub mod LongFiles

@@ -33,7 +33,7 @@ use Rattle.policy.specs.Policy.{most-rules, most-listed}
 use Rattle.policy.specs.Rule.{Rule}
 use Rattle.policy.specs.Claims.{Keepable}
 use Rattle.policy.proofs.Tests.{or-left}
-use Rattle.policy.proofs.Lists.{in-all}
+use Rattle.policy.proofs.Lists.{in-all, mem-in, in-mem}
 use Rattle.policy.proofs.Order.{distinct-differ, sublist-occurs, sublist-in, sublist-distinct, within-length}
 use Rattle.deployment.specs.Checked.{good}
 use Rattle.deployment.specs.Bytes.{number, bytesOf, part, joined}
@@ -41,6 +41,11 @@ use Rattle.deployment.specs.Values.{Script, ruleBytes, numbersBytes, scr
 use Rattle.deployment.specs.Contents.{Contents, ruleRead, policyRead, keepRead, scriptRead}
 use Rattle.deployment.specs.File.{
   Fields,
+  rulesOnly,
+  setInitial,
+  setTarget,
+  setKeep,
+  setScript,
   nothing,
   listed,
   rule-tag,
@@ -48,12 +53,13 @@ use Rattle.deployment.specs.File.{
   target-tag,
   keep-tag,
   script-tag,
-  nextTags,
+  tagsAfter,
+  tagOr,
+  lastTag,
   lengthFits,
   fieldRead,
   withRule,
-  withInitial,
-  withTarget,
+  withPolicy,
   withKeep,
   withScript,
   withField,
@@ -82,14 +88,19 @@ use Rattle.deployment.specs.Properties.{
   Listed,
   Scripted,
   IfThere,
-  There,
   Valid,
+  upToInitial,
+  upToKeep,
+  PolicyBehind,
+  KeepBehind,
+  ScriptBehind,
   Readable,
   fieldsBytes,
 }
 use Rattle.deployment.specs.Claims.{ReadBack, ValuesReadBack, valuesOf}
 use Rattle.deployment.proofs.Bytes.{are-bytes-append, bytes-are-bytes, number-bytes, length-joined, are-bytes-joined}
 use Rattle.deployment.proofs.Tests.{says-list, says-script}
+use Rattle.deployment.proofs.Fields.{late}
 use Rattle.deployment.proofs.Values.{
   rule-read,
   rule-fits,
@@ -176,7 +187,7 @@ module _ (tag : ℕ) (value left : List ℕ) where
   unfolding fieldBytes bytesOf part
   value-read = take-at value left (length value) refl
 
-  pub field-read : (f : Fields) → tag < 256 → length value < 65536 → mem tag (nextTags f) ≡ true
+  pub field-read : (f : Fields) → tag < 256 → length value < 65536 → mem tag (tagsAfter (lastTag f)) ≡ true
       → (eqb tag rule-tag && leb most-rules (length (f .catalogue))) ≡ false → lengthFits tag (length value) ≡ true
       → fieldRead f (fieldBytes tag value ++ left) ≡ good (record { tag = tag; value = value })
   unfolding fieldRead
@@ -203,7 +214,7 @@ through-both {u = u} {v = v} first second =
     }
 
 pub through-field : (f : Fields) {g : Fields} (tag : ℕ) (value : List ℕ) → tag < 256 → length value < 65536
-    → mem tag (nextTags f) ≡ true → (eqb tag rule-tag && leb most-rules (length (f .catalogue))) ≡ false
+    → mem tag (tagsAfter (lastTag f)) ≡ true → (eqb tag rule-tag && leb most-rules (length (f .catalogue))) ≡ false
     → lengthFits tag (length value) ≡ true → withField f (record { tag = tag; value = value }) ≡ good g
     → Through f (fieldBytes tag value) g
 unfolding readFrom fieldBytes bytesOf
@@ -219,19 +230,12 @@ through-field f {g} tag value small few stands counted fits gives =
     }
 
 -- Fields, one at a time.
-abbrev fields : List Rule → Option (List ℕ) → Option (List ℕ) → Option (List ℕ) → Option Script → Fields
-fields catalogue initial target keep script =
-    record { catalogue = catalogue; initial = initial; target = target; keep = keep; script = script }
-
-abbrev rulesOnly : List Rule → Fields
-rulesOnly catalogue = fields catalogue none none none none
-
 abbrev pub ruleField : Rule → List ℕ
 ruleField rule = fieldBytes rule-tag (ruleBytes rule)
 
 through-rule : (catalogue : List Rule) (rule : Rule) → length catalogue < most-rules → Recordable rule
     → ¬ List·Memᴰ rule catalogue → Through (rulesOnly catalogue) (ruleField rule) (rulesOnly (catalogue ++ (rule ∷ [])))
-unfolding nextTags mem lengthFits withField withRule
+unfolding tagsAfter tagOr lastTag mem lengthFits withField withRule
 through-rule catalogue rule few h n =
     let long = length-rule rule in
     through-field (rulesOnly catalogue) rule-tag (ruleBytes rule) (omega arith) (omega arith) refl
@@ -257,52 +261,46 @@ through-rules done (rule ∷ rest) h =
     (unlike-before done rule rest (h .unlike)))
     (rw append-assoc at (through-rules (done ++ (rule ∷ [])) rest (rw append-assoc h)))
 
--- the other fields, where they are there, behind the catalogue
+-- the other fields, where they are there, behind those before them
 module _ (c : List Rule) (few : length c ≤ most-rules) where
-  through-initial : (initial : Option (List ℕ)) → IfThere (Listed (length c)) initial
-      → Through (rulesOnly c) (ifThere initial-tag numbersBytes initial) (fields c initial none none none)
-  unfolding ifThere nextTags mem lengthFits withField withInitial
+  through-initial : (initial : Option (List ℕ)) → IfThere (PolicyBehind (rulesOnly c) initial-tag) initial
+      → Through (rulesOnly c) (ifThere initial-tag numbersBytes initial) (setInitial (rulesOnly c) initial)
+  unfolding ifThere lengthFits withField withPolicy
   through-initial none h = through-none
   through-initial (some policy) h =
-      through-field (rulesOnly c) initial-tag (numbersBytes policy) (omega arith) (omega (arith, length-numbers policy, h .few))
-      refl refl (list-fits policy (h .few)) (rw (policy-reads (length c) policy few h))
+      through-field (rulesOnly c) initial-tag (numbersBytes policy) (omega arith) (omega (arith, length-numbers policy, h .1 .few))
+      (in-mem _ _ (h .0)) refl (list-fits policy (h .1 .few)) (rw (policy-reads (length c) policy few (h .1)))
 
-  through-target : (initial target : Option (List ℕ)) → IfThere (λ policy. There initial × Listed (length c) policy) target
-      → Through (fields c initial none none none) (ifThere target-tag numbersBytes target) (fields c initial target none none)
-  unfolding ifThere nextTags mem lengthFits withField withTarget
-  through-target initial none h = through-none
-  through-target none (some policy) h = absurd (h .0)
-  through-target (some initial) (some policy) h =
-      through-field (fields c (some initial) none none none) target-tag (numbersBytes policy) (omega arith)
-      (omega (arith, length-numbers policy, h .1 .few)) refl refl (list-fits policy (h .1 .few))
-      (rw (policy-reads (length c) policy few (h .1)))
+  module _ (initial : Option (List ℕ)) where
+    through-target : (target : Option (List ℕ)) → let f = setInitial (rulesOnly c) initial in
+        IfThere (PolicyBehind f target-tag) target → Through f (ifThere target-tag numbersBytes target) (setTarget f target)
+    unfolding ifThere lengthFits withField withPolicy
+    through-target none h = through-none
+    through-target (some policy) h =
+        through-field (setInitial (rulesOnly c) initial) target-tag (numbersBytes policy) (omega arith)
+        (omega (arith, length-numbers policy, h .1 .few)) (in-mem _ _ (h .0)) refl (list-fits policy (h .1 .few))
+        (rw (policy-reads (length c) policy few (h .1)))
 
-  through-keep : (initial target keep : Option (List ℕ)) → IfThere (λ policy. There initial × Listed (length c) policy) target
-      → IfThere (λ keep. There target × Sublistᴰ keep (listed initial) × Sublistᴰ keep (listed target)) keep
-      → Through (fields c initial target none none) (ifThere keep-tag numbersBytes keep) (fields c initial target keep none)
-  unfolding ifThere nextTags mem lengthFits withField withKeep listed
-  through-keep initial target none h k = through-none
-  through-keep initial none (some keep) h k = absurd (k .0)
-  through-keep initial (some target) (some keep) h k =
-      let short = keep-few (length c) target keep (h .1) (k .2) in
-      through-field (fields c initial (some target) none none) keep-tag (numbersBytes keep) (omega arith)
-      (omega (arith, length-numbers keep)) refl refl (list-fits keep short)
-      (rw (keep-reads (length c) (listed initial) target keep few (h .1) (k .1) (k .2)))
+    through-keep : (target keep : Option (List ℕ)) → let f = setTarget (setInitial (rulesOnly c) initial) target in
+        IfThere (PolicyBehind (setInitial (rulesOnly c) initial) target-tag) target → IfThere (KeepBehind f) keep
+        → Through f (ifThere keep-tag numbersBytes keep) (setKeep f keep)
+    unfolding ifThere lengthFits withField withKeep listed lastTag tagOr
+    through-keep target none h k = through-none
+    through-keep none (some keep) h k = absurd (late initial keep-tag (omega arith) (k .0))
+    through-keep (some target) (some keep) h k =
+        let short = keep-few (length c) target keep (h .1) (k .2) in
+        through-field (setTarget (setInitial (rulesOnly c) initial) (some target)) keep-tag (numbersBytes keep) (omega arith)
+        (omega (arith, length-numbers keep)) (in-mem _ _ (k .0)) refl (list-fits keep short)
+        (rw (keep-reads (length c) (listed initial) target keep few (h .1) (k .1) (k .2)))
 
-  through-script : (initial target keep : Option (List ℕ)) (script : Option Script)
-      → IfThere (λ script. There target × Scripted script) script
-      → Through (fields c initial target keep none) (ifThere script-tag scriptBytes script) (fields c initial target keep script)
-  unfolding ifThere nextTags mem lengthFits withField withScript
-  through-script initial target keep none h = through-none
-  through-script initial none keep (some script) h = absurd (h .0)
-  through-script initial (some target) keep (some script) h =
-      through-field (fields c initial (some target) keep none) script-tag (scriptBytes script) (omega arith)
-      (omega (arith, length-script script, h .1 .few)) (stands keep) refl (or-left false (script-fits script (h .1)))
+  through-script : (f : Fields) (script : Option Script) → IfThere (ScriptBehind f) script
+      → f .script ≡ none → Through f (ifThere script-tag scriptBytes script) (setScript f script)
+  unfolding ifThere lengthFits withField withScript
+  through-script f none h absent = rw (← absent) through-none
+  through-script f (some script) h absent =
+      through-field f script-tag (scriptBytes script) (omega arith)
+      (omega (arith, length-script script, h .1 .few)) (in-mem _ _ (h .0)) refl (or-left false (script-fits script (h .1)))
       (rw (script-reads script (h .1)))
-    where
-      stands : (keep : Option (List ℕ)) → mem script-tag (nextTags (fields c initial (some target) keep none)) ≡ true
-      stands none = refl
-      stands (some keep) = refl
 
 -- the bytes of fields that can have been read lead the reader to those fields
 pub through-fields : (f : Fields) → Readable f → Through nothing (fieldsBytes f) f
@@ -314,7 +312,7 @@ through-fields f h =
     (through-both (through-initial c few (f .initial) (h .initial))
     (through-both (through-target c few (f .initial) (f .target) (h .target))
     (through-both (through-keep c few (f .initial) (f .target) (f .keep) (h .target) (h .keep))
-    (through-script c few (f .initial) (f .target) (f .keep) (f .script) (h .script)))))
+    (through-script c few (upToKeep f) (f .script) (h .script) refl))))
 
 pub read-through : (f : Fields) (left : List ℕ) → Readable f
     → readFrom 0 nothing 0 (fieldsBytes f ++ left) ≡ readFrom 0 f (length (fieldsBytes f)) left
@@ -350,27 +348,33 @@ file-are-bytes c =
 
 -- the fields of contents, and that they can have been read
 unfoldable pub fieldsOf : Contents → Fields
-fieldsOf c = fields (c .catalogue) (some (c .initial)) (some (c .target)) (c .keep) (c .script)
+fieldsOf c =
+    record { catalogue = c .catalogue; initial = some (c .initial); target = some (c .target); keep = c .keep; script = c .script }
 
 pub valid-readable : (c : Contents) → Valid c → Readable (fieldsOf c)
-unfolding fieldsOf listed
+unfolding fieldsOf listed tagsAfter tagOr lastTag mem
 valid-readable c h =
     record {
       catalogue = h .catalogue;
-      initial = h .initial;
-      target = (tt, h .target);
+      initial = (stands initial-tag rule-tag refl, h .initial);
+      target = (stands target-tag initial-tag refl, h .target);
       keep = kept (c .initial) (c .target) (c .keep) (h .keep);
-      script = scripted (c .script) (h .script);
+      script = scripted (c .keep) (c .script) (h .script);
     }
   where
-    kept : (initial target : List ℕ) (keep : Option (List ℕ)) → Keepable initial target keep
-        → IfThere (λ keep. Unit {0} × Sublistᴰ keep initial × Sublistᴰ keep target) keep
-    kept initial target none k = tt
-    kept initial target (some keep) k = (tt, k .0, k .1)
+    stands : (tag last : ℕ) → mem tag (tagsAfter last) ≡ true → List·Memᴰ tag (tagsAfter last)
+    stands tag last e = mem-in tag (tagsAfter last) e
 
-    scripted : (script : Option Script) → IfThere Scripted script → IfThere (λ script. Unit {0} × Scripted script) script
-    scripted none k = tt
-    scripted (some script) k = (tt, k)
+    kept : (initial target : List ℕ) (keep : Option (List ℕ)) → Keepable initial target keep
+        → IfThere (λ keep. List·Memᴰ keep-tag (tagsAfter target-tag) × Sublistᴰ keep initial × Sublistᴰ keep target) keep
+    kept initial target none k = tt
+    kept initial target (some keep) k = (stands keep-tag target-tag refl, k .0, k .1)
+
+    scripted : (keep : Option (List ℕ)) (script : Option Script) → IfThere Scripted script
+        → IfThere (λ script. List·Memᴰ script-tag (tagsAfter (tagOr keep-tag keep target-tag)) × Scripted script) script
+    scripted keep none k = tt
+    scripted none (some script) k = (stands script-tag target-tag refl, k)
+    scripted (some l) (some script) k = (stands script-tag keep-tag refl, k)
 
 pub file-fields : (c : Contents) → fileOf c ≡ fieldsBytes (fieldsOf c)
 unfolding fileOf fieldsBytes fieldsOf ifThere
@@ -395,7 +399,7 @@ rules-length catalogue =
     length-joined 30 (map ruleField catalogue) (rule-fields-wide catalogue) ∙ ap (λ (n : ℕ). 30 * n) (length-map catalogue ruleField)
 
 -- a property of what may be absent, from another
-there-too : {A : Type 0} (P Q : A → Type 0) → ((a : A) → P a → Q a) → (o : Option A) → IfThere P o → IfThere Q o
+pub there-too : {A : Type 0} (P Q : A → Type 0) → ((a : A) → P a → Q a) → (o : Option A) → IfThere P o → IfThere Q o
 there-too P Q implies none h = tt
 there-too P Q implies (some a) h = implies a h
 
@@ -410,18 +414,17 @@ unfolding ifThere
 script-length none h = omega arith
 script-length (some script) h = omega (arith, length-field script-tag (scriptBytes script), length-script script, h .few)
 
-kept-few : (size : ℕ) (initial target keep : Option (List ℕ)) → IfThere (λ policy. There initial × Listed size policy) target
-    → IfThere (λ keep. There target × Sublistᴰ keep (listed initial) × Sublistᴰ keep (listed target)) keep
+kept-few : (c : List Rule) (initial target keep : Option (List ℕ)) → let f = setInitial (rulesOnly c) initial in
+    IfThere (PolicyBehind f target-tag) target → IfThere (KeepBehind (setTarget f target)) keep
     → IfThere (λ l. length l ≤ most-listed) keep
-unfolding listed
-kept-few size initial target none h k = tt
-kept-few size initial none (some keep) h k = absurd (k .0)
-kept-few size initial (some target) (some keep) h k = keep-few size target keep (h .1) (k .2)
+unfolding listed lastTag tagOr
+kept-few c initial target none h k = tt
+kept-few c initial none (some keep) h k = absurd (late initial keep-tag (omega arith) (k .0))
+kept-few c initial (some target) (some keep) h k = keep-few (length c) target keep (h .1) (k .2)
 
 pub fields-fit : (f : Fields) → Readable f → length (fieldsBytes f) ≤ 44045
 unfolding fieldsBytes
 fields-fit f h =
-    let size = length (f .catalogue) in
     let few : List ℕ → Type 0 = λ l. length l ≤ most-listed in
     let rules = joined (map ruleField (f .catalogue)) in
     let initial = ifThere initial-tag numbersBytes (f .initial) in
@@ -436,11 +439,10 @@ fields-fit f h =
       length-append keep script,
       rules-length (f .catalogue),
       h .catalogue .few,
-      list-length initial-tag (f .initial) (there-too (Listed size) few (λ l k. k .few) (f .initial) (h .initial)),
-      list-length target-tag (f .target)
-          (there-too (λ l. There (f .initial) × Listed size l) few (λ l k. k .1 .few) (f .target) (h .target)),
-      list-length keep-tag (f .keep) (kept-few size (f .initial) (f .target) (f .keep) (h .target) (h .keep)),
-      script-length (f .script) (there-too (λ s. There (f .target) × Scripted s) Scripted (λ s k. k .1) (f .script) (h .script)),
+      list-length initial-tag (f .initial) (there-too (PolicyBehind _ initial-tag) few (λ l k. k .1 .few) (f .initial) (h .initial)),
+      list-length target-tag (f .target) (there-too (PolicyBehind (upToInitial f) target-tag) few (λ l k. k .1 .few) (f .target) (h .target)),
+      list-length keep-tag (f .keep) (kept-few (f .catalogue) (f .initial) (f .target) (f .keep) (h .target) (h .keep)),
+      script-length (f .script) (there-too (ScriptBehind (upToKeep f)) Scripted (λ s k. k .1) (f .script) (h .script)),
     )
 
 pub valid-fits : (c : Contents) → Valid c → length (fileOf c) ≤ 44045

@@ -5,7 +5,7 @@ use native.Mathlib.Omega.{arith}
 use mathlib.Core.Path.{_≡_, refl, sym, _∙_, ap, subst}
 use mathlib.Core.Bool.{Bool, true, false, not, _&&_}
 use mathlib.Core.Logic.{⊎-elim, _↔_}
-use mathlib.Core.List.{List, [], _∷_, _++_, append-nil, List·Memᴰ·not-nil, Sublistᴰ}
+use mathlib.Core.List.{List, [], _∷_, _++_, append-nil, List·Memᴰ·not-nil}
 use mathlib.Core.Option.{Option, none, some}
 use lib.ListN.{length, drop, length-append, length-drop}
 use lib.Dec.{eqb, leb}
@@ -13,20 +13,28 @@ use Rattle.policy.specs.Lists.{mem}
 use Rattle.policy.specs.Policy.{most-rules}
 use Rattle.policy.specs.Rule.{Rule}
 use Rattle.policy.specs.Claims.{Keepable}
+use Rattle.policy.proofs.Lists.{not-mem}
 use Rattle.deployment.specs.Checked.{Checked, good, bad, _>>=_, whyNumber, refusalNumbers}
 use Rattle.deployment.specs.Bytes.{joined}
+use Rattle.deployment.specs.Values.{Script}
 use Rattle.deployment.specs.Contents.{Contents, ruleRead, policyRead, keepRead, scriptRead}
 use Rattle.deployment.specs.File.{
   Fields,
+  rulesOnly,
+  setInitial,
+  setTarget,
+  setKeep,
+  setScript,
   nothing,
   listed,
-  nextTags,
+  tagsAfter,
+  tagOr,
+  lastTag,
   lengthFits,
   Field,
   fieldRead,
   withRule,
-  withInitial,
-  withTarget,
+  withPolicy,
   withKeep,
   withScript,
   withField,
@@ -50,8 +58,11 @@ use Rattle.deployment.specs.File.{
 use Rattle.deployment.specs.Properties.{
   AreBytes,
   Valid,
+  Scripted,
   IfThere,
   There,
+  KeepBehind,
+  ScriptBehind,
   Readable,
   fieldsBytes,
   tagOf,
@@ -79,21 +90,8 @@ use Rattle.deployment.proofs.Numbers.{both-same, reading-numbers-say}
 use Rattle.deployment.proofs.Bytes.{are-bytes-drop, length-part}
 use Rattle.deployment.proofs.Values.{byOption}
 use Rattle.deployment.proofs.Tests.{Each, Turns, each-then, tested, rule-tested, policy-tested, keep-tested, script-tested}
-use Rattle.deployment.proofs.Fields.{
-  Stage,
-  at-rules,
-  at-initial,
-  at-target,
-  at-keep,
-  at-script,
-  stage,
-  ValueRight,
-  taken,
-  whole-read,
-  taken-right,
-  fails-taken,
-}
-use Rattle.deployment.proofs.ReadBack.{pass-over, read-through, valid-fits}
+use Rattle.deployment.proofs.Taken.{ValueRight, taken, whole-read, taken-right, fails-taken}
+use Rattle.deployment.proofs.ReadBack.{pass-over, read-through, there-too, valid-fits}
 
 -- One field: turned away, or read, and then what is left behind it.
 read-by {ℓ} : (Right : Reading → Type ℓ) (f : Fields) (at x : ℕ) (l : List ℕ)
@@ -114,13 +112,13 @@ read-by Right f at x l turned passed = head (fieldRead f (x ∷ l)) refl
     head (good field) h = value field (withField f field) h refl
 
 -- the bytes of a field that is whole are passed over
-passed-over : {f : Fields} (s : Stage f) (field : Field) (g : Fields) (at x : ℕ) (l : List ℕ)
+passed-over : (f : Fields) (field : Field) (g : Fields) (at x : ℕ) (l : List ℕ)
     → Whole f (x ∷ l) → fieldRead f (x ∷ l) ≡ good field
     → readFrom (2 + length (field .value)) g (suc at) l
     ≡ readFrom 0 g (at + (head-bytes + sizeOf (x ∷ l))) (drop (head-bytes + sizeOf (x ∷ l)) (x ∷ l))
-passed-over s field g at x l whole e =
+passed-over f field g at x l whole e =
     let size = sizeOf (x ∷ l) in
-    let known = whole-read s (x ∷ l) whole in
+    let known = whole-read f (x ∷ l) whole in
     let same : field ≡ record { tag = tagOf (x ∷ l); value = valueOf (x ∷ l) } = cc in
     let long : length (field .value) ≡ size =
     ap (λ (f : Field). length (f .value)) same ∙ length-part head-bytes size (x ∷ l) (whole .1) in
@@ -137,39 +135,30 @@ turned-away : (f : Fields) (left : List ℕ) {number : ℕ} → Readable f → F
     → TurnedAway (fieldsBytes f ++ left) number (length (fieldsBytes f))
 turned-away f left r fails = record { fields = f; left = left; is = refl; readable = r; counted = refl; fails = fails }
 
-keepable : (i t : List ℕ) (keep : Option (List ℕ)) → IfThere (λ k. There (some t) × Sublistᴰ k i × Sublistᴰ k t) keep
-    → Keepable i t keep
-keepable i t none h = tt
-keepable i t (some k) h = (h .1, h .2)
+keepable : (f : Fields) (keep : Option (List ℕ)) → IfThere (KeepBehind f) keep → Keepable (listed (f .initial)) (listed (f .target)) keep
+keepable f none h = tt
+keepable f (some k) h = (h .1, h .2)
 
-end-right : (f : Fields) → Stage f → Readable f → ReadingRight (fieldsBytes f ++ []) (atEnd f (length (fieldsBytes f)))
-unfolding atEnd fieldsBytes ifThere fileOf listed
-end-right f (at-rules c) r = turned-away f [] r (no-target refl (λ h. h))
-end-right f (at-initial c i) r = turned-away f [] r (no-target refl (λ h. h))
-end-right f (at-target c i t) r = (
-  record { catalogue = r .catalogue; initial = r .initial; target = r .target .1; keep = tt; script = tt },
-  sym (append-nil (fieldsBytes f)),
-)
-end-right f (at-keep c i t k) r = (
-  record {
-    catalogue = r .catalogue;
-    initial = r .initial;
-    target = r .target .1;
-    keep = keepable i t (some k) (r .keep);
-    script = tt;
-  },
-  sym (append-nil (fieldsBytes f)),
-)
-end-right f (at-script c i t keep s) r = (
-  record {
-    catalogue = r .catalogue;
-    initial = r .initial;
-    target = r .target .1;
-    keep = keepable i t keep (r .keep);
-    script = r .script .1;
-  },
-  sym (append-nil (fieldsBytes f)),
-)
+end-right : (f : Fields) → Readable f → ReadingRight (fieldsBytes f ++ []) (atEnd f (length (fieldsBytes f)))
+unfolding atEnd fieldsBytes ifThere fileOf listed tagsAfter tagOr lastTag mem
+end-right f r = go (f .catalogue) (f .initial) (f .target) (f .keep) (f .script) r
+  where
+    go : (c : List Rule) (i t k : Option (List ℕ)) (s : Option Script)
+        → let f = setScript (setKeep (setTarget (setInitial (rulesOnly c) i) t) k) s in
+        Readable f → ReadingRight (fieldsBytes f ++ []) (atEnd f (length (fieldsBytes f)))
+    go c i none k s r = turned-away _ [] r (no-target refl (λ h. h))
+    go c none (some t) k s r = absurd (not-mem target-tag (tagsAfter rule-tag) refl (r .target .0))
+    go c (some i) (some t) k s r =
+        let f = setTarget (setInitial (rulesOnly c) (some i)) (some t) in (
+          record {
+            catalogue = r .catalogue;
+            initial = r .initial .1;
+            target = r .target .1;
+            keep = keepable f k (r .keep);
+            script = there-too (ScriptBehind (setKeep f k)) Scripted (λ s h. h .1) s (r .script);
+          },
+          sym (append-nil (fieldsBytes (setScript (setKeep f k) s))),
+        )
 
 -- a reading that goes on is right where every later one is: a field is turned away, or is passed and its bytes join those so far
 abbrev pub RightFrom : Fields → List ℕ → Type 0
@@ -178,10 +167,9 @@ RightFrom f left = ReadingRight (fieldsBytes f ++ left) (readFrom 0 f (length (f
 by-rest : (f : Fields) (left : List ℕ) → Readable f → AreBytes left
     → ((g : Fields) (rest : List ℕ) → length rest < length left → Readable g → AreBytes rest → RightFrom g rest) → RightFrom f left
 unfolding readFrom
-by-rest f [] r b others = end-right f (stage f r) r
+by-rest f [] r b others = end-right f r
 by-rest f (x ∷ l) r b others =
-    let s = stage f r in
-    let right : ValueRight f (x ∷ l) (taken f (x ∷ l)) = taken-right s (x ∷ l) r b (omega arith) in
+    let right : ValueRight f (x ∷ l) (taken f (x ∷ l)) = taken-right f (x ∷ l) r b (omega arith) in
     read-by (ReadingRight (fieldsBytes f ++ (x ∷ l))) f (length (fieldsBytes f)) x l
     (λ why e. turned-away f (x ∷ l) r (subst (ValueRight f (x ∷ l)) e right))
     λ field g h e.
@@ -191,7 +179,7 @@ by-rest f (x ∷ l) r b others =
     let behind : length rest ≡ length (x ∷ l) - past = length-drop past (x ∷ l) in
     let position : length (fieldsBytes g) ≡ length (fieldsBytes f) + past =
     omega (arith, length-append (fieldsBytes g) rest, length-append (fieldsBytes f) (x ∷ l), ap length (more .2), more .0 .1) in
-    rw (passed-over s field g (length (fieldsBytes f)) x l (more .0) h, ← position, ← more .2)
+    rw (passed-over f field g (length (fieldsBytes f)) x l (more .0) h, ← position, ← more .2)
     (others g rest (omega arith) (more .1) (are-bytes-drop past (x ∷ l) b))
 
 pub reading-right : (n : ℕ) (f : Fields) (left : List ℕ) → length left ≤ n → Readable f → AreBytes left → RightFrom f left
@@ -238,12 +226,12 @@ absent : {A : Type 0} (o : Option A) → ¬ There o → o ≡ none
 absent none h = refl
 absent (some a) h = absurd (h tt)
 
-fails-read : (f : Fields) (at : ℕ) (left : List ℕ) (number : ℕ) → Stage f → FieldFails f left number
+fails-read : (f : Fields) (at : ℕ) (left : List ℕ) (number : ℕ) → FieldFails f left number
     → readingNumbers (readFrom 0 f at left) ≡ number ∷ at ∷ []
 unfolding readFrom atEnd readingNumbers refusalNumbers
-fails-read f at [] number s fails = let last = fails-at-end f fails in rw (last .0, absent (f .target) (last .1), atEnd)
-fails-read f at (x ∷ l) number s fails =
-    let turned = fails-taken s (x ∷ l) (omega arith) fails in
+fails-read f at [] number fails = let last = fails-at-end f fails in rw (last .0, absent (f .target) (last .1), atEnd)
+fails-read f at (x ∷ l) number fails =
+    let turned = fails-taken f (x ∷ l) (omega arith) fails in
     read-by (λ reading. readingNumbers reading ≡ number ∷ at ∷ []) f at x l
     (λ why e. let same : whyNumber why ≡ number = subst (Turns number) e turned in rw same)
     λ field g h e. absurd (subst (Turns number) e turned)
@@ -254,7 +242,7 @@ refusals file number at b = (
   λ e. go (readFile file) (file-right file b) e,
   λ h. rw (h .is, h .counted)
       (ap readingNumbers (read-through (h .fields) (h .left) (h .readable))
-      ∙ fails-read (h .fields) (length (fieldsBytes (h .fields))) (h .left) number (stage (h .fields) (h .readable)) (h .fails)),
+      ∙ fails-read (h .fields) (length (fieldsBytes (h .fields))) (h .left) number (h .fails)),
 )
   where
     go : (reading : Reading) → ReadingRight file reading → readingNumbers reading ≡ number ∷ at ∷ [] → TurnedAway file number at
@@ -285,7 +273,7 @@ head-below : (f : Fields) (left : List ℕ) → AllBelow (fieldRead f left)
 unfolding fieldRead
 head-below f left =
     tested AllBelow (leb head-bytes (length left)) (λ e. omega arith) λ e.
-    tested AllBelow (mem (tagOf left) (nextTags f)) (λ e. omega arith) λ e.
+    tested AllBelow (mem (tagOf left) (tagsAfter (lastTag f))) (λ e. omega arith) λ e.
     tested AllBelow (not (eqb (tagOf left) rule-tag && leb most-rules (length (f .catalogue)))) (λ e. omega arith) λ e.
     tested AllBelow (lengthFits (tagOf left) (sizeOf left)) (λ e. omega arith) λ e.
     tested AllBelow (leb (head-bytes + sizeOf left) (length left)) (λ e. omega arith) λ e. tt
@@ -307,7 +295,7 @@ branch P true p q = p
 branch P false p q = q
 
 value-below : (f : Fields) (field : Field) → AllBelow (withField f field)
-unfolding withField withRule withInitial withTarget withKeep withScript
+unfolding withField withRule withPolicy withKeep withScript
 value-below f field =
     let value = field .value in
     let c = f .catalogue in

@@ -1,6 +1,6 @@
 -- 01, "The deployment file": the reader, from bytes to contents or to a refusal, and the writer. Assumes nothing.
 use Prim.Native.Nat.{ℕ, zero, suc, _+_}
-use mathlib.Core.Bool.{Bool, true, false, not, _&&_, _||_}
+use mathlib.Core.Bool.{Bool, true, false, cond, not, _&&_, _||_}
 use mathlib.Core.List.{List, [], _∷_, _++_, map}
 use mathlib.Core.Option.{Option, none, some}
 use lib.ListN.{length}
@@ -24,8 +24,28 @@ pub record Fields : Type 0 where
   pub keep : Option (List ℕ)
   pub script : Option Script
 
+-- rules and nothing else
+abbrev pub rulesOnly : List Rule → Fields
+rulesOnly catalogue = record { catalogue = catalogue; initial = none; target = none; keep = none; script = none }
+
 unfoldable pub nothing : Fields
-nothing = record { catalogue = []; initial = none; target = none; keep = none; script = none }
+nothing = rulesOnly []
+
+-- one member set, the others kept
+abbrev pub setCatalogue : Fields → List Rule → Fields
+setCatalogue f catalogue = record { catalogue = catalogue; initial = f .initial; target = f .target; keep = f .keep; script = f .script }
+
+abbrev pub setInitial : Fields → Option (List ℕ) → Fields
+setInitial f initial = record { catalogue = f .catalogue; initial = initial; target = f .target; keep = f .keep; script = f .script }
+
+abbrev pub setTarget : Fields → Option (List ℕ) → Fields
+setTarget f target = record { catalogue = f .catalogue; initial = f .initial; target = target; keep = f .keep; script = f .script }
+
+abbrev pub setKeep : Fields → Option (List ℕ) → Fields
+setKeep f keep = record { catalogue = f .catalogue; initial = f .initial; target = f .target; keep = keep; script = f .script }
+
+abbrev pub setScript : Fields → Option Script → Fields
+setScript f script = record { catalogue = f .catalogue; initial = f .initial; target = f .target; keep = f .keep; script = script }
 
 -- the numbers of a list that is there
 unfoldable pub listed : Option (List ℕ) → List ℕ
@@ -48,19 +68,28 @@ keep-tag = 4
 abbrev pub script-tag : ℕ
 script-tag = 5
 
--- "Tags stand in rising order", rules any number of times, each policy once, keep list and script at most once: those that can stand next
-unfoldable pub nextTags : Fields → List ℕ
-nextTags f =
-    elim (f .script) [
-      | some script ↦ []
-      | none ↦ elim (f .keep) [
-        | some keep ↦ script-tag ∷ []
-        | none ↦ elim (f .target) [
-          | some target ↦ keep-tag ∷ script-tag ∷ []
-          | none ↦ elim (f .initial) [ some initial ↦ target-tag ∷ [] | none ↦ rule-tag ∷ initial-tag ∷ [] ]
-        ]
-      ]
-    ]
+-- "Tags stand in rising order", rules any number of times, each policy once, keep list and script at most once: the tags that can
+-- stand after the last one. The only place that says so.
+unfoldable pub tagsAfter : ℕ → List ℕ
+tagsAfter last =
+    cond (eqb last rule-tag) (rule-tag ∷ initial-tag ∷ [])
+    (cond (eqb last initial-tag) (target-tag ∷ [])
+    (cond (eqb last target-tag) (keep-tag ∷ script-tag ∷ [])
+    (cond (eqb last keep-tag) (script-tag ∷ [])
+    [])))
+
+-- the last tag that is there, that of a rule at the start
+unfoldable pub tagOr : {A : Type 0} → ℕ → Option A → ℕ → ℕ
+tagOr tag none last = last
+tagOr tag (some a) last = tag
+
+unfoldable pub lastTag : Fields → ℕ
+lastTag f =
+    tagOr script-tag (f .script)
+    (tagOr keep-tag (f .keep)
+    (tagOr target-tag (f .target)
+    (tagOr initial-tag (f .initial)
+    rule-tag)))
 
 -- 4, by the tag
 unfoldable pub lengthFits : ℕ → ℕ → Bool
@@ -84,7 +113,7 @@ fieldRead f left =
     let size = number (part 1 2 left) in
     do
       require (leb head-bytes (length left)) Cut
-      require (mem tag (nextTags f)) Tag
+      require (mem tag (tagsAfter (lastTag f))) Tag
       require (not (eqb tag rule-tag && leb most-rules (length (f .catalogue)))) TooMany
       require (lengthFits tag size) Length
       require (leb (head-bytes + size) (length left)) Cut
@@ -94,36 +123,31 @@ fieldRead f left =
 unfoldable pub withRule : Fields → List ℕ → Checked Fields
 withRule f value = do
   rule ← ruleRead (f .catalogue) value
-  good (record { catalogue = f .catalogue ++ (rule ∷ []); initial = f .initial; target = f .target; keep = f .keep; script = f .script })
+  good (setCatalogue f (f .catalogue ++ (rule ∷ [])))
 
-unfoldable pub withInitial : Fields → List ℕ → Checked Fields
-withInitial f value = do
+unfoldable pub withPolicy : (Fields → Option (List ℕ) → Fields) → Fields → List ℕ → Checked Fields
+withPolicy set f value = do
   policy ← policyRead (length (f .catalogue)) value
-  good (record { catalogue = f .catalogue; initial = some policy; target = f .target; keep = f .keep; script = f .script })
-
-unfoldable pub withTarget : Fields → List ℕ → Checked Fields
-withTarget f value = do
-  policy ← policyRead (length (f .catalogue)) value
-  good (record { catalogue = f .catalogue; initial = f .initial; target = some policy; keep = f .keep; script = f .script })
+  good (set f (some policy))
 
 unfoldable pub withKeep : Fields → List ℕ → Checked Fields
 withKeep f value = do
   keep ← keepRead (listed (f .initial)) (listed (f .target)) value
-  good (record { catalogue = f .catalogue; initial = f .initial; target = f .target; keep = some keep; script = f .script })
+  good (setKeep f (some keep))
 
 unfoldable pub withScript : Fields → List ℕ → Checked Fields
 withScript f value = do
   script ← scriptRead value
-  good (record { catalogue = f .catalogue; initial = f .initial; target = f .target; keep = f .keep; script = some script })
+  good (setScript f (some script))
 
 unfoldable pub withField : Fields → Field → Checked Fields
 withField f field =
     elim (eqb (field .tag) rule-tag) [
       | true ↦ withRule f (field .value)
       | false ↦ elim (eqb (field .tag) initial-tag) [
-        | true ↦ withInitial f (field .value)
+        | true ↦ withPolicy setInitial f (field .value)
         | false ↦ elim (eqb (field .tag) target-tag) [
-          | true ↦ withTarget f (field .value)
+          | true ↦ withPolicy setTarget f (field .value)
           | false ↦ elim (eqb (field .tag) keep-tag) [ true ↦ withKeep f (field .value) | false ↦ withScript f (field .value) ]
         ]
       ]

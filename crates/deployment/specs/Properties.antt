@@ -30,7 +30,13 @@ use Rattle.deployment.specs.Contents.{Contents}
 use Rattle.deployment.specs.Catalogue.{recordsOf, catalogueOf}
 use Rattle.deployment.specs.File.{
   Fields,
+  rulesOnly,
+  setInitial,
+  setTarget,
+  setKeep,
   listed,
+  tagsAfter,
+  lastTag,
   fieldBytes,
   ifThere,
   rule-tag,
@@ -108,13 +114,37 @@ abbrev pub There : {A : Type 0} → Option A → Type 0
 There none = ⊥
 There (some a) = Unit {0}
 
--- fields that can have been read: "Tags stand in rising order"
+-- 2: the tags that can stand next are those after the last one
+abbrev pub CanStand : Fields → ℕ → Type 0
+CanStand f tag = List·Memᴰ tag (tagsAfter (lastTag f))
+
+-- the fields up to one of them
+abbrev pub upToInitial : Fields → Fields
+upToInitial f = setInitial (rulesOnly (f .catalogue)) (f .initial)
+
+abbrev pub upToTarget : Fields → Fields
+upToTarget f = setTarget (upToInitial f) (f .target)
+
+abbrev pub upToKeep : Fields → Fields
+upToKeep f = setKeep (upToTarget f) (f .keep)
+
+-- values that can stand behind fields: where their tag can, and with what they must have there
+abbrev pub PolicyBehind : Fields → ℕ → List ℕ → Type 0
+PolicyBehind f tag policy = CanStand f tag × Listed (length (f .catalogue)) policy
+
+abbrev pub KeepBehind : Fields → List ℕ → Type 0
+KeepBehind f keep = CanStand f keep-tag × Sublistᴰ keep (listed (f .initial)) × Sublistᴰ keep (listed (f .target))
+
+abbrev pub ScriptBehind : Fields → Script → Type 0
+ScriptBehind f script = CanStand f script-tag × Scripted script
+
+-- fields that can have been read: each can stand behind those before it
 pub record Readable (f : Fields) : Type 0 where
   pub catalogue : Catalogue (f .catalogue)
-  pub initial : IfThere (Listed (length (f .catalogue))) (f .initial)
-  pub target : IfThere (λ policy. There (f .initial) × Listed (length (f .catalogue)) policy) (f .target)
-  pub keep : IfThere (λ keep. There (f .target) × Sublistᴰ keep (listed (f .initial)) × Sublistᴰ keep (listed (f .target))) (f .keep)
-  pub script : IfThere (λ script. There (f .target) × Scripted script) (f .script)
+  pub initial : IfThere (PolicyBehind (rulesOnly (f .catalogue)) initial-tag) (f .initial)
+  pub target : IfThere (PolicyBehind (upToInitial f) target-tag) (f .target)
+  pub keep : IfThere (KeepBehind (upToTarget f)) (f .keep)
+  pub script : IfThere (ScriptBehind (upToKeep f)) (f .script)
 
 -- and the bytes that they were read from
 unfoldable pub fieldsBytes : Fields → List ℕ
@@ -134,14 +164,6 @@ sizeOf left = number (part 1 2 left)
 
 abbrev pub valueOf : List ℕ → List ℕ
 valueOf left = part head-bytes (sizeOf left) left
-
--- 2: the tags that can stand next: rules and the initial policy first, then the target, then keep list and script
-abbrev pub CanStand : Fields → ℕ → Type 0
-CanStand f tag =
-    (((tag ≡ rule-tag) ⊎ (tag ≡ initial-tag)) × ¬ There (f .initial))
-    ⊎ (((tag ≡ target-tag) × There (f .initial) × ¬ There (f .target))
-    ⊎ (((tag ≡ keep-tag) × There (f .target) × ¬ There (f .keep) × ¬ There (f .script))
-    ⊎ ((tag ≡ script-tag) × There (f .target) × ¬ There (f .script))))
 
 -- 7: "a 1,025th rule"
 abbrev pub OneTooMany : Fields → ℕ → Type 0

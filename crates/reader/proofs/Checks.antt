@@ -9,6 +9,7 @@ use mathlib.Core.List.{List, [], _∷_}
 use mathlib.Core.Option.{Option, none, some}
 use lib.ListN.{length, take, drop}
 use borrow.Author.Tests.{eq-eqb}
+use Rattle.policy.specs.Policy.{most-rules}
 use Rattle.deployment.specs.Checked.{good}
 use Rattle.deployment.specs.Bytes.{chunks, joined}
 use Rattle.deployment.specs.Values.{rule-bytes, numbersOf, numbersBytes, listFits}
@@ -18,11 +19,12 @@ use Rattle.deployment.specs.FieldValues.{policyValue, keepValue, scriptValue}
 use Rattle.deployment.specs.File.{
   Fields,
   Field,
+  rulesOnly,
   listed,
+  lastTag,
   fieldRead,
   withRule,
-  withInitial,
-  withTarget,
+  withPolicy,
   withKeep,
   withScript,
   withField,
@@ -34,10 +36,9 @@ use Rattle.deployment.specs.File.{
   head-bytes,
 }
 use Rattle.deployment.specs.Properties.{
-  Listed,
   IfThere,
-  There,
-  Readable,
+  upToInitial,
+  PolicyBehind,
   fieldsBytes,
   tagOf,
   sizeOf,
@@ -49,9 +50,8 @@ use Rattle.deployment.specs.Properties.{
 use Rattle.deployment.proofs.Bytes.{length-part}
 use Rattle.deployment.proofs.Tests.{says-list, says-script}
 use Rattle.deployment.proofs.Values.{policy-numbers}
-use Rattle.deployment.proofs.Fields.{
-  Stage,
-  stage,
+use Rattle.deployment.proofs.Fields.{script-left}
+use Rattle.deployment.proofs.Taken.{
   FieldRight,
   field-right,
   whole-read,
@@ -78,13 +78,13 @@ read-some f [] field e = absurd (let z : _≡_ {A = ℕ} 0 1 = cc in omega arith
 read-some f (x ∷ l) field e = omega arith
 
 module _
-    {f : Fields} (s : Stage f) (left : List ℕ) (tag : ℕ) (value : List ℕ)
+    (f : Fields) (left : List ℕ) (tag : ℕ) (value : List ℕ)
     (read : fieldRead f left ≡ good (record { tag = tag; value = value })) where
   pub read-whole : Whole f left
-  read-whole = subst (FieldRight f left) read (field-right f left s (read-some f left _ read))
+  read-whole = subst (FieldRight f left) read (field-right f left (read-some f left _ read))
 
   pub read-field : _≡_ {A = Field} (record { tag = tag; value = value }) (record { tag = tagOf left; value = valueOf left })
-  read-field = let whole = whole-read s left read-whole in cc
+  read-field = let whole = whole-read f left read-whole in cc
 
   pub read-long : length value ≡ sizeOf left
   read-long = ap (λ (field : Field). length (field .value)) read-field ∙ length-part head-bytes (sizeOf left) left (read-whole .1)
@@ -100,29 +100,18 @@ no-numbers : numbersOf (numbersBytes []) ≡ []
 unfolding numbersOf numbersBytes joined chunks
 no-numbers = refl
 
-initial-back : (f : Fields) → Readable f → numbersOf (numbersBytes (listed (f .initial))) ≡ listed (f .initial)
+policy-back : (f : Fields) (tag : ℕ) (o : Option (List ℕ)) → length (f .catalogue) ≤ most-rules → IfThere (PolicyBehind f tag) o
+    → numbersOf (numbersBytes (listed o)) ≡ listed o
 unfolding listed
-initial-back f r = go (f .initial) (r .initial)
-  where
-    go : (o : Option (List ℕ)) → IfThere (Listed (length (f .catalogue))) o → numbersOf (numbersBytes (listed o)) ≡ listed o
-    go none h = no-numbers
-    go (some l) h = policy-numbers (length (f .catalogue)) l (r .catalogue .few) (h .sound)
-
-target-back : (f : Fields) → Readable f → numbersOf (numbersBytes (listed (f .target))) ≡ listed (f .target)
-unfolding listed
-target-back f r = go (f .target) (r .target)
-  where
-    go : (o : Option (List ℕ)) → IfThere (λ policy. There (f .initial) × Listed (length (f .catalogue)) policy) o
-        → numbersOf (numbersBytes (listed o)) ≡ listed o
-    go none h = no-numbers
-    go (some l) h = policy-numbers (length (f .catalogue)) l (r .catalogue .few) (h .1 .sound)
+policy-back f tag none few h = no-numbers
+policy-back f tag (some l) few h = policy-numbers (length (f .catalogue)) l few (h .1 .sound)
 
 -- The tests of a value, by its tag.
 module _
     (file : List ℕ) (progress : Progress) (f : Fields) (b : Begun file progress f) (tag : ℕ) (value : List ℕ)
     (read : fieldRead f (drop (progress .at) file) ≡ good (record { tag = tag; value = value })) where
   right : RightLength tag (length value)
-  right = read-right (stage f (b .readable)) (drop (progress .at) file) tag value read
+  right = read-right f (drop (progress .at) file) tag value read
 
   same-catalogue : take (progress .layout .rules) (catalogueOf 3 file) ≡ f .catalogue
   same-catalogue =
@@ -143,7 +132,7 @@ module _
   pub checked-policy : (tag ≡ initial-tag) ⊎ (tag ≡ target-tag)
       → checking (policyValue (min (progress .layout .rules) 1024) value)
       ≡ checking (withField f (record { tag = tag; value = value }))
-  unfolding policyValue withInitial withTarget
+  unfolding policyValue withPolicy
   checked-policy which =
       let few : min (progress .layout .rules) 1024 ≡ length (f .catalogue) =
       omega (arith, same-count file progress f b, b .readable .catalogue .few) in
@@ -159,14 +148,14 @@ module _
   same-initial =
       ap numbersOf
       (rw (b .known, b .is) (initial-stands f (drop (length (fieldsBytes f)) file)))
-      ∙ initial-back f (b .readable)
+      ∙ policy-back (rulesOnly (f .catalogue)) initial-tag (f .initial) (b .readable .catalogue .few) (b .readable .initial)
 
   same-target : numbersOf (valueAt (progress .layout .target) file) ≡ listed (f .target)
   unfolding progressOf
   same-target =
       ap numbersOf
       (rw (b .known, b .is) (target-stands f (drop (length (fieldsBytes f)) file)))
-      ∙ target-back f (b .readable)
+      ∙ policy-back (upToInitial f) target-tag (f .target) (b .readable .catalogue .few) (b .readable .target)
 
   pub checked-keep : (initial target : List ℕ) → initial ≡ valueAt (progress .layout .initial) file
       → target ≡ valueAt (progress .layout .target) file → tag ≡ keep-tag
@@ -178,16 +167,10 @@ module _
       (sym (checking-last (keepRead (listed (f .initial)) (listed (f .target)) value) _)
       ∙ checking-last (keepRead (listed (f .initial)) (listed (f .target)) value) _)
 
-  last-tag : ¬ (tag ≡ rule-tag) → ¬ (tag ≡ initial-tag) → ¬ (tag ≡ target-tag) → ¬ (tag ≡ keep-tag) → tag ≡ script-tag
-  last-tag r i t k =
-      ⊎-elim (λ h. absurd (⊎-elim r i (h .0)))
-      (⊎-elim (λ h. absurd (t (h .0))) (⊎-elim (λ h. absurd (k (h .0))) (λ h. h .0)))
-      (read-stands (stage f (b .readable)) (drop (progress .at) file) tag value read)
-
   pub checked-script : ¬ (tag ≡ rule-tag) → ¬ (tag ≡ initial-tag) → ¬ (tag ≡ target-tag) → ¬ (tag ≡ keep-tag)
       → checking (scriptValue (some value)) ≡ checking (withField f (record { tag = tag; value = value }))
   unfolding scriptValue withScript
   checked-script r i t k =
-      let e = last-tag r i t k in
+      let e = script-left (lastTag f) (read-stands f (drop (progress .at) file) tag value read) r i t k in
       rw (with-script f tag value e, says-script (length value) .1 (script-size e right))
       (sym (checking-last (scriptRead value) _) ∙ checking-last (scriptRead value) _)

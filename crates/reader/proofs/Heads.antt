@@ -13,13 +13,12 @@ use Rattle.policy.specs.Lists.{mem}
 use Rattle.policy.specs.Policy.{most-rules}
 use Rattle.policy.proofs.Tests.{byTest}
 use Rattle.deployment.specs.Bytes.{number, part}
-use Rattle.deployment.specs.File.{Fields, Field, nextTags, lengthFits, fieldRead, rule-tag}
+use Rattle.deployment.specs.File.{Fields, Field, tagsAfter, lastTag, lengthFits, fieldRead, rule-tag}
 use Rattle.deployment.specs.Properties.{tagOf, sizeOf}
 use Rattle.deployment.specs.declared.Why.the-variants.{Cut, Tag, Length, TooMany}
 use Rattle.deployment.proofs.Bytes.{length-part}
 use Rattle.deployment.proofs.Records.{number-one, part-elements}
-use Rattle.deployment.proofs.Fields.{Stage, at-rules, at-initial, at-target, at-keep, at-script, stage}
-use Rattle.reader.specs.Steps.{lastTag, tagsAfter, layoutSoFar, progressOf, Begun, headShown}
+use Rattle.reader.specs.Steps.{layoutSoFar, progressOf, Begun, headShown}
 use Rattle.reader.specs.declared.file.Progress.{Progress}
 use Rattle.reader.specs.declared.file.Head.the-variants as head
 use Rattle.reader.specs.declared.Checking.the-variants.{Bad}
@@ -41,14 +40,6 @@ first-tag tag x y e = eq-eqb tag x e ∙ rw (eq-eqb x tag (sym e))
 pub second-tag : (tag x y : ℕ) → (tag ≡ x → ⊥) → eqb tag y ≡ mem tag (x ∷ y ∷ [])
 unfolding mem
 second-tag tag x y n = only-tag tag y ∙ rw (ne-eqb x tag (λ e. n (sym e)))
-
-next-tags : {f : Fields} → Stage f → nextTags f ≡ tagsAfter (lastTag f)
-unfolding nextTags tagsAfter lastTag
-next-tags (at-rules c) = refl
-next-tags (at-initial c i) = refl
-next-tags (at-target c i t) = refl
-next-tags (at-keep c i t k) = refl
-next-tags (at-script c i t k s) = refl
 
 -- The head of a field, from the bytes at a position.
 module _ (file : List ℕ) (at : ℕ) (headed : 3 ≤ length file - at) where
@@ -83,9 +74,9 @@ module _ (file : List ℕ) (progress : Progress) (f : Fields) (b : Begun file pr
     headed-test : leb 3 (length (drop (progress .at) file)) ≡ true
     headed-test = le-leb 3 (length (drop (progress .at) file)) (rw length-drop headed)
 
-    stands-test : mem (tagOf (drop (progress .at) file)) (nextTags f)
+    stands-test : mem (tagOf (drop (progress .at) file)) (tagsAfter (lastTag f))
         ≡ mem (getD file (progress .at) 0) (tagsAfter (progress .last))
-    stands-test = rw (tag-at file (progress .at) headed, next-tags (stage f (b .readable)), same-last)
+    stands-test = rw (tag-at file (progress .at) headed, same-last)
 
     pub head-tag : mem (getD file (progress .at) 0) (tagsAfter (progress .last)) ≡ false
         → head.Bad Tag ≡ headShown (fieldRead f (drop (progress .at) file))

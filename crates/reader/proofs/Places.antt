@@ -4,7 +4,6 @@ use Prim.Native.Nat.{ℕ, _+_, _*_, _-_, _/_, _≤_}
 use native.Mathlib.Nat.{zero-add, suc-add}
 use native.Mathlib.Omega.{arith}
 use mathlib.Core.Path.{_≡_, refl, sym, _∙_, ap}
-use mathlib.Core.Logic.{⊎-elim}
 use mathlib.Core.List.{List, [], _∷_, _++_, map, append-assoc, append-nil, List·Memᴰ, List·Memᴰ·head, List·Memᴰ·tail, map-map, map-append}
 use mathlib.Core.Option.{Option, none, some}
 use lib.ListN.{length, take, drop, length-append, length-drop, length-map, drop-of-length-le}
@@ -14,10 +13,10 @@ use Rattle.deployment.specs.Bytes.{bytesOf, part, chunks, joined}
 use Rattle.deployment.specs.Values.{Script, ruleOf, ruleBytes, numbersBytes, scriptBytes}
 use Rattle.deployment.specs.Catalogue.{recordCount, recordsOf, catalogueOf}
 use Rattle.deployment.specs.File.{Fields, listed, fieldBytes, ifThere, rule-tag, initial-tag, target-tag, keep-tag, script-tag}
-use Rattle.deployment.specs.Properties.{Recordable, fieldsBytes}
+use Rattle.deployment.specs.Properties.{Recordable, CanStand, fieldsBytes}
 use Rattle.deployment.proofs.Records.{part-between}
 use Rattle.deployment.proofs.Values.{length-rule, map-back, rule-read}
-use Rattle.deployment.proofs.Fields.{joined-append, fields, Stage, at-rules, at-initial, at-target, at-keep, at-script, Next}
+use Rattle.deployment.proofs.Fields.{joined-append, before-rule}
 use Rattle.deployment.proofs.ReadBack.{length-field, rules-length, rule-fields-wide, ruleField}
 use Rattle.reader.specs.Answers.{valueAt, spanFrom, absent, spanIf, endOf, keepBytes, commandBytes, ruleSpan}
 use Rattle.reader.specs.Steps.{layoutSoFar}
@@ -139,13 +138,11 @@ module _ (f : Fields) where
   fields-end = rw (← keep-end, ← script-ends (keepPart f) script-tag) (simp append-assoc)
 
 -- before the initial policy they are those of the rules alone
-pub rules-alone : {f : Fields} (s : Stage f) → Next s rule-tag → length (fieldsBytes f) ≡ length (f .catalogue) * 30
+pub rules-alone : (f : Fields) → CanStand f rule-tag → length (fieldsBytes f) ≡ length (f .catalogue) * 30
 unfolding endOf keepBytes commandBytes
-rules-alone (at-rules c) h = fields-end (fields c none none none none)
-rules-alone (at-initial c i) h = absurd (omega arith)
-rules-alone (at-target c i t) h = absurd (⊎-elim (λ e. omega arith) (λ e. omega arith) h)
-rules-alone (at-keep c i t k) h = absurd (omega arith)
-rules-alone (at-script c i t k s) h = absurd h
+rules-alone f h =
+    let none-there = before-rule f h in
+    fields-end f ∙ rw (none-there .0, none-there .1, none-there .2, none-there .3)
 
 -- The catalogue: thirty bytes a rule, its record behind the head of its field.
 pub chunks-front : (width : ℕ) (pieces : List (List ℕ)) (count : ℕ) (rest : List ℕ)

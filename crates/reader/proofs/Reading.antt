@@ -5,52 +5,52 @@ use native.Mathlib.Omega.{arith}
 use mathlib.Core.Path.{_≡_, refl, sym, _∙_, ap, subst}
 use mathlib.Core.Bool.{false}
 use mathlib.Core.List.{List, [], _++_}
+use mathlib.Core.Option.{Option, none, some}
 use lib.ListN.{length, take, drop, length-append, length-drop, drop-of-length-le}
 use lib.Seq.{drop-drop, drop-at}
+use Rattle.policy.specs.Lists.{mem}
+use Rattle.policy.specs.Rule.{Rule}
+use Rattle.policy.proofs.Lists.{not-mem}
 use Rattle.deployment.specs.Checked.{Checked, good, bad}
 use Rattle.deployment.specs.Bytes.{part, joined}
-use Rattle.deployment.specs.Values.{ruleOf, known}
+use Rattle.deployment.specs.Values.{Script, ruleOf, known}
 use Rattle.deployment.specs.Catalogue.{catalogueOf}
 use Rattle.deployment.specs.File.{
   Fields,
   Field,
+  rulesOnly,
+  setInitial,
+  setTarget,
+  setKeep,
+  setScript,
   listed,
+  tagsAfter,
+  tagOr,
+  lastTag,
   fieldRead,
   withField,
   atEnd,
   rule-tag,
   target-tag,
+  keep-tag,
+  script-tag,
   head-bytes,
   nothing,
   readFrom,
   readFile,
   ifThere,
 }
-use Rattle.deployment.specs.Properties.{fieldsBytes, sizeOf, AreBytes}
+use Rattle.deployment.specs.Properties.{CanStand, Readable, fieldsBytes, sizeOf, AreBytes}
 use Rattle.deployment.specs.declared.Why.the-variants.{NoTarget}
 use Rattle.deployment.specs.declared.Why.{Why}
 use Rattle.deployment.proofs.Bytes.{are-bytes-drop}
-use Rattle.deployment.proofs.Fields.{
-  fields,
-  Stage,
-  at-rules,
-  at-initial,
-  at-target,
-  at-keep,
-  at-script,
-  stage,
-  Next,
-  stands-next,
-  rule-size,
-  ValueRight,
-  taken,
-  taken-right,
-}
+use Rattle.deployment.proofs.Fields.{late}
+use Rattle.deployment.proofs.Taken.{rule-size, ValueRight, taken, taken-right}
 use Rattle.deployment.proofs.ReadBack.{read-through}
 use Rattle.deployment.proofs.Reader.{nothing-readable, refusal-row}
 use Rattle.reader.specs.Answers.{checking, valueAt, spanFrom, spanIf, keepBytes, layoutOf, shown, fileRead}
 use Rattle.reader.specs.Marks.{Apart}
-use Rattle.reader.specs.Steps.{lastTag, layoutSoFar, progressOf, Begun, More, headShown, stepShown, stepFrom}
+use Rattle.reader.specs.Steps.{layoutSoFar, progressOf, Begun, More, headShown, stepShown, stepFrom}
 use Rattle.reader.specs.declared.FileRead.the-variants.{Accepted, Refused}
 use Rattle.reader.specs.declared.Layout.{Layout}
 use Rattle.reader.specs.declared.Span.{Span}
@@ -73,10 +73,10 @@ module _ (f : Fields) (left : List ℕ) where
       go (bad other) h e = rw h (let same : why ≡ other = cc in rw same)
       go (good field) h e = absurd (let z : _≡_ {A = ℕ} 0 1 = cc in omega arith)
 
-  pub headed-field : Stage f → (tag size : ℕ) → head.Field tag size ≡ headShown (fieldRead f left)
+  pub headed-field : (tag size : ℕ) → head.Field tag size ≡ headShown (fieldRead f left)
       → (fieldRead f left ≡ good (record { tag = tag; value = part 3 size left })) × (3 + size ≤ length left) × (size ≡ sizeOf left)
   unfolding headShown
-  headed-field s tag size e = go (fieldRead f left) refl e
+  headed-field tag size e = go (fieldRead f left) refl e
     where
       go : (read : Checked Field) → fieldRead f left ≡ read → head.Field tag size ≡ headShown read
           → (fieldRead f left ≡ good (record { tag = tag; value = part 3 size left })) × (3 + size ≤ length left) × (size ≡ sizeOf left)
@@ -84,10 +84,10 @@ module _ (f : Fields) (left : List ℕ) where
       go (good field) h e =
           let same-tag : tag ≡ field .tag = cc in
           let same-size : size ≡ length (field .value) = cc in
-          let whole = read-whole s left (field .tag) (field .value) h in
-          let long = read-long s left (field .tag) (field .value) h in
+          let whole = read-whole f left (field .tag) (field .value) h in
+          let long = read-long f left (field .tag) (field .value) h in
           let same-value : field .value ≡ part 3 (sizeOf left) left =
-          ap (λ (field : Field). field .value) (read-field s left (field .tag) (field .value) h) in
+          ap (λ (field : Field). field .value) (read-field f left (field .tag) (field .value) h) in
           (rw (same-tag, same-size, long, ← same-value) h, omega arith, same-size ∙ long)
 
   pub turned-at-value : (field : Field) → fieldRead f left ≡ good field → (why : Why) → Bad why ≡ checking (withField f field)
@@ -139,9 +139,6 @@ module _ (file : List ℕ) (progress : Progress) (f : Fields) (b : Begun file pr
   left-long : length (drop (progress .at) file) ≡ length file - progress .at
   left-long = length-drop (progress .at) file
 
-  stage-now : Stage f
-  stage-now = stage f (b .readable)
-
   whole-file : file ≡ fieldsBytes f ++ drop (progress .at) file
   whole-file = rw position (b .is)
 
@@ -151,7 +148,7 @@ module _ (file : List ℕ) (progress : Progress) (f : Fields) (b : Begun file pr
       → fieldRead f (drop (progress .at) file) ≡ good (record { tag = tag; value = value })
   unfolding valueAt part
   cut-field tag size value found is =
-      rw (is, ← drop-drop) (headed-field f (drop (progress .at) file) stage-now tag size found .0)
+      rw (is, ← drop-drop) (headed-field f (drop (progress .at) file) tag size found .0)
 
   -- it is a rule: the record whose number is the count of the rules so far
   pub apart-field : (tag size : ℕ) (value : List ℕ) → head.Field tag size ≡ headShown (fieldRead f (drop (progress .at) file))
@@ -162,24 +159,24 @@ module _ (file : List ℕ) (progress : Progress) (f : Fields) (b : Begun file pr
   apart-field tag size value found is count apart e below =
       let left = drop (progress .at) file in
       let read = cut-field tag size value found is in
-      let stands : Next stage-now rule-tag = subst (Next stage-now) e (stands-next stage-now tag (read-stands stage-now left tag value read)) in
-      let right : length value ≡ 27 = rule-size e (read-right stage-now left tag value read) in
+      let stands : CanStand f rule-tag = subst (CanStand f) e (read-stands f left tag value read) in
+      let right : length value ≡ 27 = rule-size e (read-right f left tag value read) in
       let long : size ≡ 27 =
-      omega (arith, right, read-long stage-now left tag value read, headed-field f left stage-now tag size found .2) in
+      omega (arith, right, read-long f left tag value read, headed-field f left tag size found .2) in
       let at-rule : progress .at ≡ progress .layout .rules * 30 =
-      position ∙ rules-alone stage-now stands ∙ ap (λ (n : ℕ). n * 30) (same-count file progress f b) in
+      position ∙ rules-alone f stands ∙ ap (λ (n : ℕ). n * 30) (same-count file progress f b) in
       subst (λ (v : List ℕ). known (ruleOf v) (take (progress .layout .rules) (catalogueOf 3 file)) ≡ false)
       (ap (λ (at : ℕ). part (at + 3) 27 file) (sym at-rule) ∙ ap (λ (n : ℕ). part (progress .at + 3) n file) (sym long) ∙ sym is)
       (apart (progress .layout .rules) below)
 
   pub field-inside : (tag size : ℕ) → head.Field tag size ≡ headShown (fieldRead f (drop (progress .at) file))
       → progress .at + 3 + size ≤ length file
-  field-inside tag size found = omega (arith, left-long, headed-field f (drop (progress .at) file) stage-now tag size found .1)
+  field-inside tag size found = omega (arith, left-long, headed-field f (drop (progress .at) file) tag size found .1)
 
   module _ (bytes : AreBytes file) where
     right-now : ValueRight f (drop (progress .at) file) (taken f (drop (progress .at) file))
     right-now =
-        taken-right stage-now (drop (progress .at) file) (b .readable) (are-bytes-drop (progress .at) file bytes) (omega (arith, left-long))
+        taken-right f (drop (progress .at) file) (b .readable) (are-bytes-drop (progress .at) file bytes) (omega (arith, left-long))
 
     -- its value passes, and its place joins the others
     pub passed-on : (tag size : ℕ) (value : List ℕ) (layout : Layout)
@@ -196,11 +193,11 @@ module _ (file : List ℕ) (progress : Progress) (f : Fields) (b : Begun file pr
         let read = cut-field tag size value found is in
         let next = passed-value f left _ read passed in
         let g = next .0 in
-        let more = more-of stage-now tag value g (read-stands stage-now left tag value read) (next .1) in
+        let more = more-of f tag value g (read-stands f left tag value read) (next .1) in
         let took : taken f left ≡ good g = rw read (next .1) in
         let far : length (fieldsBytes g) ≡ length (fieldsBytes f) + (3 + sizeOf left) =
         longer f g left (subst (ValueRight f left) took right-now) in
-        let size-is : size ≡ sizeOf left = headed-field f left stage-now tag size found .2 in
+        let size-is : size ≡ sizeOf left = headed-field f left tag size found .2 in
         let known : progress .layout ≡ layoutSoFar f = ap (λ (p : Progress). p .layout) (b .known) in
         ap step.Next
         (same-progress (omega (arith, position)) (more-last (more .1))
@@ -251,22 +248,32 @@ module _ (file : List ℕ) (progress : Progress) (f : Fields) (b : Begun file pr
             rw named
 
 -- The end of the file: 3 where no target is there.
-pub ended-early : {f : Fields} → Stage f → lastTag f < target-tag → (at : ℕ)
-    → Refused (record { why = NoTarget; at = at }) ≡ shown (atEnd f at)
-unfolding lastTag atEnd shown
-ended-early (at-rules c) h at = refl
-ended-early (at-initial c i) h at = refl
-ended-early (at-target c i t) h at = absurd (omega arith)
-ended-early (at-keep c i t k) h at = absurd (omega arith)
-ended-early (at-script c i t k s) h at = absurd (omega arith)
+abbrev all : List Rule → Option (List ℕ) → Option (List ℕ) → Option (List ℕ) → Option Script → Fields
+all c i t k s = setScript (setKeep (setTarget (setInitial (rulesOnly c) i) t) k) s
 
-pub ended-late : {f : Fields} → Stage f → target-tag ≤ lastTag f → (at : ℕ) → Accepted (layoutSoFar f) ≡ shown (atEnd f at)
-unfolding lastTag atEnd shown layoutSoFar layoutOf listed keepBytes spanIf
-ended-late (at-rules c) h at = absurd (omega arith)
-ended-late (at-initial c i) h at = absurd (omega arith)
-ended-late (at-target c i t) h at = refl
-ended-late (at-keep c i t k) h at = refl
-ended-late (at-script c i t k s) h at = refl
+pub ended-early : (f : Fields) → lastTag f < target-tag → (at : ℕ) → Refused (record { why = NoTarget; at = at }) ≡ shown (atEnd f at)
+unfolding lastTag tagOr atEnd shown
+ended-early f below at = go (f .catalogue) (f .initial) (f .target) (f .keep) (f .script) below
+  where
+    go : (c : List Rule) (i t k : Option (List ℕ)) (s : Option Script) → lastTag (all c i t k s) < target-tag
+        → Refused (record { why = NoTarget; at = at }) ≡ shown (atEnd (all c i t k s) at)
+    go c i none k s h = refl
+    go c i (some t) none none h = absurd (omega arith)
+    go c i (some t) (some k) none h = absurd (omega arith)
+    go c i (some t) k (some s) h = absurd (omega arith)
+
+pub ended-late : (f : Fields) → Readable f → target-tag ≤ lastTag f → (at : ℕ) → Accepted (layoutSoFar f) ≡ shown (atEnd f at)
+unfolding lastTag tagOr tagsAfter mem atEnd shown layoutSoFar layoutOf listed keepBytes spanIf
+ended-late f r above at = go (f .catalogue) (f .initial) (f .target) (f .keep) (f .script) r above
+  where
+    go : (c : List Rule) (i t k : Option (List ℕ)) (s : Option Script) → Readable (all c i t k s)
+        → target-tag ≤ lastTag (all c i t k s) → Accepted (layoutSoFar (all c i t k s)) ≡ shown (atEnd (all c i t k s) at)
+    go c (some i) (some t) k s r h = refl
+    go c none (some t) k s r h = absurd (not-mem target-tag (tagsAfter rule-tag) refl (r .target .0))
+    go c i none (some k) s r h = absurd (late i keep-tag (omega arith) (r .keep .0))
+    go c i none none (some s) r h = absurd (late i script-tag (omega arith) (r .script .0))
+    go c none none none none r h = absurd (omega arith)
+    go c (some i) none none none r h = absurd (omega arith)
 
 -- At the start nothing has been read; at the end the fields are all there are.
 pub begun-at-start : (file : List ℕ) → Begun file (progressOf nothing) nothing

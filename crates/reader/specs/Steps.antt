@@ -2,16 +2,20 @@
 -- the deployment crate. Assumes nothing.
 use Prim.Native.Nat.{ℕ, _+_, _*_}
 use mathlib.Core.Path.{_≡_}
-use mathlib.Core.Bool.{cond}
 use mathlib.Core.List.{List, [], _∷_, _++_}
-use mathlib.Core.Option.{Option, none, some}
+use mathlib.Core.Option.{some}
 use lib.ListN.{length, drop}
-use lib.Dec.{eqb}
 use Rattle.policy.specs.Rule.{Rule}
 use Rattle.deployment.specs.Checked.{Checked, good, bad, _>>=_}
 use Rattle.deployment.specs.Values.{Script, rule-bytes, ruleBytes, numbersBytes, scriptBytes}
 use Rattle.deployment.specs.File.{
   Fields,
+  setCatalogue,
+  setInitial,
+  setTarget,
+  setKeep,
+  setScript,
+  lastTag,
   Field,
   fieldRead,
   withField,
@@ -22,7 +26,7 @@ use Rattle.deployment.specs.File.{
   keep-tag,
   script-tag,
 }
-use Rattle.deployment.specs.Properties.{Readable, fieldsBytes}
+use Rattle.deployment.specs.Properties.{CanStand, Readable, fieldsBytes}
 use Rattle.reader.specs.Answers.{keepBytes, commandBytes, spanIf, endOf, there}
 use Rattle.reader.specs.declared.Layout.{Layout}
 use Rattle.reader.specs.declared.file.Progress.{Progress}
@@ -30,28 +34,6 @@ use Rattle.reader.specs.declared.file.Head.{Head}
 use Rattle.reader.specs.declared.file.Head.the-variants as head
 use Rattle.reader.specs.declared.file.Step.{Step}
 use Rattle.reader.specs.declared.file.Step.the-variants as step
-
--- "Tags stand in rising order": the last tag that is there, that of a rule at the start, and the tags that can stand after it
-unfoldable pub lastTag : Fields → ℕ
-lastTag f =
-    elim (f .script) [
-      | some script ↦ script-tag
-      | none ↦ elim (f .keep) [
-        | some keep ↦ keep-tag
-        | none ↦ elim (f .target) [
-          | some target ↦ target-tag
-          | none ↦ elim (f .initial) [ some initial ↦ initial-tag | none ↦ rule-tag ]
-        ]
-      ]
-    ]
-
-unfoldable pub tagsAfter : ℕ → List ℕ
-tagsAfter last =
-    cond (eqb last rule-tag) (rule-tag ∷ initial-tag ∷ [])
-    (cond (eqb last initial-tag) (target-tag ∷ [])
-    (cond (eqb last target-tag) (keep-tag ∷ script-tag ∷ [])
-    (cond (eqb last keep-tag) (script-tag ∷ [])
-    [])))
 
 -- where the values of the fields read so far stand
 unfoldable pub layoutSoFar : Fields → Layout
@@ -80,21 +62,13 @@ pub record Begun (file : List ℕ) (progress : Progress) (f : Fields) : Type 0 w
   pub is : file ≡ fieldsBytes f ++ drop (length (fieldsBytes f)) file
   pub known : progress ≡ progressOf f
 
--- fields with one more, by its tag and its value
-abbrev fields : List Rule → Option (List ℕ) → Option (List ℕ) → Option (List ℕ) → Option Script → Fields
-fields c initial target keep script = record { catalogue = c; initial = initial; target = target; keep = keep; script = script }
-
-pub data More : Fields → ℕ → List ℕ → Fields → Type 0 where
-  a-rule : (c : List Rule) (rule : Rule)
-      → More (fields c none none none none) rule-tag (ruleBytes rule) (fields (c ++ (rule ∷ [])) none none none none)
-  an-initial : (c : List Rule) (i : List ℕ)
-      → More (fields c none none none none) initial-tag (numbersBytes i) (fields c (some i) none none none)
-  a-target : (c : List Rule) (i t : List ℕ)
-      → More (fields c (some i) none none none) target-tag (numbersBytes t) (fields c (some i) (some t) none none)
-  a-keep : (c : List Rule) (i t k : List ℕ)
-      → More (fields c (some i) (some t) none none) keep-tag (numbersBytes k) (fields c (some i) (some t) (some k) none)
-  a-script : (c : List Rule) (i t : List ℕ) (k : Option (List ℕ)) (s : Script)
-      → More (fields c (some i) (some t) k none) script-tag (scriptBytes s) (fields c (some i) (some t) k (some s))
+-- fields with one more, by its tag, which can stand behind them, and its value
+pub data More (f : Fields) : ℕ → List ℕ → Fields → Type 0 where
+  a-rule : (rule : Rule) → CanStand f rule-tag → More f rule-tag (ruleBytes rule) (setCatalogue f (f .catalogue ++ (rule ∷ [])))
+  an-initial : (i : List ℕ) → CanStand f initial-tag → More f initial-tag (numbersBytes i) (setInitial f (some i))
+  a-target : (t : List ℕ) → CanStand f target-tag → More f target-tag (numbersBytes t) (setTarget f (some t))
+  a-keep : (k : List ℕ) → CanStand f keep-tag → More f keep-tag (numbersBytes k) (setKeep f (some k))
+  a-script : (s : Script) → CanStand f script-tag → More f script-tag (scriptBytes s) (setScript f (some s))
 
 -- a field's head, and a whole field, as the reader shows them
 unfoldable pub headShown : Checked Field → Head

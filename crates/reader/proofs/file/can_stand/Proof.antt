@@ -1,7 +1,7 @@
 -- `can_stand` meets its contract: by the last tag, the tags that can stand after it. Assumes nothing.
 use borrow.Author.Tests.{ne-eqb}
 use Rattle.policy.specs.Lists.{mem}
-use Rattle.reader.specs.Steps.{tagsAfter}
+use Rattle.deployment.specs.File.{tagsAfter}
 use Rattle.reader.proofs.Heads.{first-tag, second-tag, only-tag}
 use Rattle.reader.proofs.file.can_stand.Statement.{statement}
 use Rattle.reader.proofs.file.can_stand.Tie as tie

@@ -1,6 +1,11 @@
 -- `placed` meets its contract: the tag says which field comes, and its place is the only one that changes. Assumes nothing.
-use Rattle.reader.proofs.OneMore.{more-script, placed-rule, placed-initial, placed-target, placed-keep, placed-script}
+use Rattle.reader.proofs.OneMore.{more-stands, placed-rule, placed-initial, placed-target, placed-keep, placed-script}
+use Prim.Native.Nat.{ℕ}
+use mathlib.Core.Path.{subst}
 use borrow.Author.Needs.{needs}
+use Rattle.deployment.specs.File.{lastTag}
+use Rattle.deployment.proofs.Fields.{script-left}
+use Rattle.reader.specs.Steps.{More}
 use Rattle.reader.proofs.file.placed.Statement.{statement}
 use Rattle.reader.proofs.file.placed.Tie as tie
 
@@ -10,29 +15,30 @@ add-next c = search needs
 returns : tie.Need-returns
 returns c =
     let a = c .before .before .args in
-    λ f g value more l w. placed-rule (a .layout) (a .span) more (c .before .if1 .taken) l
+    λ f g value more l w. placed-rule (a .layout) (a .span) (subst (λ (t : ℕ). More f t value g) (c .before .if1 .taken) more) l
 
 returns-2 : tie.Need-returns-2
 returns-2 c =
     let a = c .before .before .args in
-    λ f g value more l w. placed-initial (a .layout) (a .span) more (c .if2 .taken) l w
+    λ f g value more l w. placed-initial (a .layout) (a .span) (subst (λ (t : ℕ). More f t value g) (c .if2 .taken) more) l w
 
 returns-3 : tie.Need-returns-3
 returns-3 c =
     let a = c .before .before .before .args in
-    λ f g value more l w. placed-target (a .layout) (a .span) more (c .if3 .taken) l w
+    λ f g value more l w. placed-target (a .layout) (a .span) (subst (λ (t : ℕ). More f t value g) (c .if3 .taken) more) l w
 
 returns-4 : tie.Need-returns-4
 returns-4 c =
     let a = c .before .before .before .before .args in
-    λ f g value more l w. placed-keep (a .layout) (a .span) more (c .if4 .taken) l w
+    λ f g value more l w. placed-keep (a .layout) (a .span) (subst (λ (t : ℕ). More f t value g) (c .if4 .taken) more) l w
 
 returns-5 : tie.Need-returns-5
 returns-5 c =
     let a = c .before .before .before .before .args in
     λ f g value more l w.
-    placed-script (a .layout) (a .span) more
-    (more-script more (c .before .before .before .if1 .left) (c .before .before .if2 .left) (c .before .if3 .left) (c .if4 .left)) l w
+    let e = script-left (lastTag f) (more-stands more)
+    (c .before .before .before .if1 .left) (c .before .before .if2 .left) (c .before .if3 .left) (c .if4 .left) in
+    placed-script (a .layout) (a .span) (subst (λ (t : ℕ). More f t value g) e more) l w
 
 pub placed-spec : {M : Type 1} → statement M
 placed-spec = tie.close (tie.spec add-next returns returns-2 returns-3 returns-4 returns-5)

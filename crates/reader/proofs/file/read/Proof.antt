@@ -7,11 +7,11 @@ use mathlib.Core.List.{List}
 use lib.ListN.{length}
 use borrow.Author.Needs.{needs}
 use Rattle.deployment.specs.Bytes.{joined}
-use Rattle.deployment.specs.File.{Fields, nothing, ifThere}
+use Rattle.deployment.specs.File.{Fields, nothing, tagOr, lastTag, ifThere}
 use Rattle.deployment.specs.Properties.{AreBytes, fieldsBytes}
 use Rattle.deployment.proofs.Bytes.{elements-are-bytes}
 use Rattle.reader.specs.Answers.{keepBytes, commandBytes, spanIf, absent, endOf, there}
-use Rattle.reader.specs.Steps.{Begun, lastTag, layoutSoFar, progressOf}
+use Rattle.reader.specs.Steps.{Begun, layoutSoFar, progressOf}
 use Rattle.reader.specs.declared.file.Progress.{Progress}
 use Rattle.reader.proofs.Reading.{begun-at-start, begun-again, turned-away, ended-right}
 use Rattle.reader.proofs.file.read.Statement.{statement}
@@ -30,7 +30,7 @@ apart-requires : tie.Need-apart-requires Inv-loop μ-loop
 apart-requires c κs = search needs
 
 loop-holds : tie.Need-loop-holds Inv-loop μ-loop
-unfolding nothing progressOf lastTag layoutSoFar keepBytes commandBytes spanIf absent endOf there fieldsBytes ifThere joined
+unfolding nothing progressOf tagOr lastTag layoutSoFar keepBytes commandBytes spanIf absent endOf there fieldsBytes ifThere joined
 loop-holds c = (nothing, begun-at-start (c .before .before .args .file .now))
 
 next-field-requires : tie.Need-next-field-requires Inv-loop μ-loop
