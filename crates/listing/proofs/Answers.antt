@@ -56,7 +56,7 @@ judge-text-has-room κ a r e p file room = written-all (judgePrinted (now (a .0)
 -- The printers.
 same-put : {old bytes after other : List ℕ} {at next end : ℕ} → Puts old at bytes after next → Puts old at bytes other end
     → at + length bytes < 2 ^ 64 → (next ≡ end) × (after ≡ other)
-same-put p q fits = let one = p fits in let two = q fits in (one .end ∙ sym (two .end), one .place ∙ sym (two .place))
+same-put p q fits = let one = p .stored fits in let two = q .stored fits in (one .end ∙ sym (two .end), one .place ∙ sym (two .place))
 
 same-whole : {most : ℕ} {old bytes after other : List ℕ} {next end : ℕ} → Whole most old bytes after next → Whole most old bytes other end
     → (next ≡ end) × (after ≡ other)

@@ -26,7 +26,7 @@ module _ {A : Type 0} (all : ℕ → List A → List ℕ) (first : ℕ) (items :
   pub no-lines : (old : List ℕ) (at : ℕ) → Lines all first items (all first items) old at old at 0
   no-lines old at =
       let start : 0 + first ≡ first = omega arith in
-      record { written = []; put = λ fits. record { place = refl; end = omega arith }; left = rw start }
+      record { written = []; put = record { stored = λ fits. record { place = refl; end = omega arith } }; left = rw start }
 
   module _ {whole old : List ℕ} {at : ℕ} {place : List ℕ} {next : ℕ} (k : ℕ) (so-far : Lines all first items whole old at place next k) where
     pub one-line : (a : A) (line : List ℕ) → drop k items ≡ a ∷ drop (suc k) items

@@ -10,13 +10,17 @@ use Rattle.listing.specs.Printing.{Puts, Whole}
 
 pub puts-more : {old middle place : List ℕ} {at next end : ℕ} {piece rest : List ℕ} → Puts old at piece middle next → Puts middle next rest place end
     → Puts old at (piece ++ rest) place end
-puts-more {piece = piece} {rest} first second fits =
-    let one = first (omega (arith, length-append piece rest)) in
-    stored-more one (second (omega (arith, one .end, length-append piece rest)))
+puts-more {piece = piece} {rest} first second =
+    record {
+      stored =
+          λ fits.
+          let one = first .stored (omega (arith, length-append piece rest)) in
+          stored-more one (second .stored (omega (arith, one .end, length-append piece rest)));
+    }
 
 pub puts-whole : {most : ℕ} {old bytes place : List ℕ} {end : ℕ} → Puts old 0 bytes place end → length bytes ≤ most → most < 2 ^ 64
     → Whole most old bytes place end
-puts-whole put short small = record { put = put (omega arith); ends = short }
+puts-whole put short small = record { put = put .stored (omega arith); ends = short }
 
 pub whole-wider : {most more : ℕ} {old bytes place : List ℕ} {end : ℕ} → Whole most old bytes place end → most ≤ more → Whole more old bytes place end
 whole-wider whole less = record { put = whole .put; ends = omega (arith, whole .ends) }

@@ -20,8 +20,8 @@ abbrev pub most-text : ℕ
 most-text = 65536
 
 -- bytes put from a position on, and the position behind them, wherever 64 bits hold it
-abbrev pub Puts : List ℕ → ℕ → List ℕ → List ℕ → ℕ → Type 0
-Puts before at bytes after next = at + length bytes < 2 ^ 64 → Stored before at bytes after next
+pub record Puts (before : List ℕ) (at : ℕ) (bytes after : List ℕ) (next : ℕ) : Type 0 where
+  pub stored : at + length bytes < 2 ^ 64 → Stored before at bytes after next
 
 -- a whole text, from the start of a place on, of at most so many bytes
 pub record Whole (most : ℕ) (before bytes after : List ℕ) (next : ℕ) : Type 0 where

@@ -14,11 +14,11 @@ abbrev pub following : ℕ → List ℕ → List ℕ
 following k numbers = spacedAll numbers
 
 pub none-following : (numbers old : List ℕ) (at : ℕ) → Lines following 0 numbers (spacedAll (drop 1 numbers)) old at old at 1
-none-following numbers old at = record { written = []; put = λ fits. record { place = refl; end = omega arith }; left = refl }
+none-following numbers old at = record { written = []; put = record { stored = λ fits. record { place = refl; end = omega arith } }; left = refl }
 
 pub no-numbers : (numbers place : List ℕ) (at : ℕ) → length numbers ≡ 0 → Puts place at (numbersText numbers) place at
 unfolding numbersText
-no-numbers [] place at none = λ fits. record { place = refl; end = omega arith }
+no-numbers [] place at none = record { stored = λ fits. record { place = refl; end = omega arith } }
 no-numbers (n ∷ numbers) place at none = absurd (omega arith)
 
 pub numbers-line : (numbers : List ℕ) → 1 ≤ length numbers

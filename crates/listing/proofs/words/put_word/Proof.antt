@@ -15,7 +15,15 @@ same-length : tie.Need-same-length
 same-length c = search needs
 
 returns : tie.Need-returns
-returns c = λ fits. record { place = c .before .before .before .store .ensures; end = c .wrapping-add-usize .ensures ∙ mod-eq-of-lt fits }
+returns c =
+    record {
+      stored =
+          λ fits.
+          record {
+            place = c .before .before .before .store .ensures;
+            end = c .wrapping-add-usize .ensures ∙ mod-eq-of-lt fits;
+          };
+    }
 
 pub put-word-spec : {M : Type 1} → statement M
 put-word-spec = tie.close (tie.spec store-requires wrapping-add-usize-requires same-length returns)
