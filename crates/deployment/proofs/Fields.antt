@@ -132,16 +132,8 @@ use Rattle.deployment.proofs.Tests.{
   keep-tested,
   script-tested,
 }
-use Rattle.deployment.proofs.Values.{
-  in-known,
-  rule-recordable,
-  rule-written,
-  numbers-count,
-  numbers-written,
-  script-scripted,
-  script-written,
-  wrong-none,
-}
+use Rattle.deployment.proofs.Values.{in-known, rule-recordable, rule-written, numbers-count, numbers-written}
+use Rattle.deployment.proofs.Scripts.{script-scripted, script-written, wrong-none}
 
 -- Fields that can have been read have one of five shapes, by the last that is there: each policy stands behind the rules, keep
 -- list and script behind both policies.
