@@ -1,6 +1,7 @@
 -- Any two answers that a contract allows are equal. Assumes nothing.
 use Prim.Native.Nat.{ℕ}
 use mathlib.Core.Path.{_≡_, sym, _∙_}
+use mathlib.Core.Bool.{Bool}
 use mathlib.Core.List.{List}
 use Rattle.deployment.specs.declared.Decoded.{Decoded}
 use Rattle.deployment.proofs.Why.number.Reads as number
@@ -8,6 +9,7 @@ use Rattle.deployment.proofs.two.Reads as two
 use Rattle.deployment.proofs.four.Reads as four
 use Rattle.deployment.proofs.listed.Reads as listed
 use Rattle.deployment.proofs.number_at.Reads as number-at
+use Rattle.deployment.proofs.is_type.Reads as is-type
 use Rattle.deployment.proofs.decode.Reads as decode
 use Rattle.deployment.proofs.commands.Reads as commands
 use Rattle.deployment.proofs.command_at.Reads as command-at
@@ -29,6 +31,9 @@ one-listed κ a r s e f p q = p ∙ sym q
 
 pub one-number-at : (κ : _) (a : _) (r s : ℕ) (e f : _) → number-at.Post κ a r e → number-at.Post κ a s f → r ≡ s
 one-number-at κ a r s e f p q = p ∙ sym q
+
+pub one-is-type : (κ : _) (a : _) (r s : Bool) (e f : _) → is-type.Post κ a r e → is-type.Post κ a s f → r ≡ s
+one-is-type κ a r s e f p q = p ∙ sym q
 
 pub one-decode : (κ : _) (a : _) (r s : Decoded) (e f : _) → decode.Post κ a r e → decode.Post κ a s f → r ≡ s
 one-decode κ a r s e f p q = p ∙ sym q

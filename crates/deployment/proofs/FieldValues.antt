@@ -52,14 +52,8 @@ use Rattle.deployment.specs.Properties.{
 }
 use Rattle.deployment.specs.Claims.{valuesOf, AreValues, ValuesWrittenAgain}
 use Rattle.deployment.proofs.Bytes.{length-chunks, chunk-length, joined-chunks, are-bytes-chunk}
-use Rattle.deployment.proofs.Values.{
-  rule-recordable,
-  rule-written,
-  numbers-count,
-  numbers-written,
-  script-scripted,
-  script-written,
-}
+use Rattle.deployment.proofs.Values.{rule-recordable, rule-written, numbers-count, numbers-written}
+use Rattle.deployment.proofs.Scripts.{script-scripted, script-written}
 use Rattle.deployment.proofs.Tests.{
   says-list,
   says-script,

@@ -1,6 +1,7 @@
 pub mod Numbers
 pub mod Bytes
 pub mod Values
+pub mod Scripts
 pub mod Records
 pub mod Tests
 pub mod Fields

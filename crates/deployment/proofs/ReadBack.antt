@@ -113,10 +113,8 @@ use Rattle.deployment.proofs.Values.{
   numbers-are-bytes,
   policy-numbers,
   keep-numbers,
-  length-script,
-  script-are-bytes,
-  script-read,
 }
+use Rattle.deployment.proofs.Scripts.{length-script, script-are-bytes, script-read}
 
 -- The values of fields, read: each passes its tests.
 pub rule-reads : (catalogue : List Rule) (rule : Rule) → Recordable rule → ¬ List·Memᴰ rule catalogue

@@ -82,7 +82,8 @@ use Rattle.deployment.specs.Properties.{
 }
 use Rattle.deployment.specs.Claims.{RefusedValues}
 use Rattle.deployment.proofs.Numbers.{both-same}
-use Rattle.deployment.proofs.Values.{in-known, wrong-none}
+use Rattle.deployment.proofs.Values.{in-known}
+use Rattle.deployment.proofs.Scripts.{wrong-none}
 use Rattle.deployment.proofs.Tests.{
   not-says,
   denies-not,

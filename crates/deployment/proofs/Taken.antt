@@ -115,10 +115,8 @@ use Rattle.deployment.proofs.Values.{
   rule-written,
   numbers-count,
   numbers-written,
-  script-scripted,
-  script-written,
-  wrong-none,
 }
+use Rattle.deployment.proofs.Scripts.{script-scripted, script-written, wrong-none}
 use Rattle.deployment.proofs.Fields.{
   says-can-stand,
   by-tag,

@@ -56,7 +56,8 @@ use Rattle.deployment.specs.Properties.{
 }
 use Rattle.deployment.specs.declared.Why.{Why}
 use Rattle.deployment.specs.declared.Why.the-variants.{Bounds, Equal, Outside, Twice, Keep, Coding}
-use Rattle.deployment.proofs.Values.{byOption, known-in, in-known, none-wrong}
+use Rattle.deployment.proofs.Values.{byOption, known-in, in-known}
+use Rattle.deployment.proofs.Scripts.{none-wrong}
 
 -- A test says a property where it passes exactly when the property holds, and denies one where it fails exactly then.
 abbrev pub Says : Bool → Type 0 → Type 0

@@ -1,12 +1,12 @@
--- The values of fields, read and written: what is written reads back as the same rule, list or script, and what is read from
+-- Rules and lists, read and written: what is written reads back as the same rule or list, and what is read from
 -- bytes of the right length writes those bytes. The idea: a value is parts of fixed widths one after another, and each part is a
 -- number. Assumes nothing.
-use Prim.Native.Nat.{ℕ, _+_, _*_, _-_, _/_, _≤_, _<_}
+use Prim.Native.Nat.{ℕ, _+_, _*_, _≤_, _<_}
 use native.Mathlib.Nat.{mul-div-cancel-left}
 use native.Mathlib.Omega.{arith}
 use mathlib.Core.Path.{_≡_, refl, sym, _∙_, ap}
-use mathlib.Core.Bool.{Bool, true, false, _&&_, _||_}
-use mathlib.Core.Logic.{_⊎_, inl, inr, ⊎-elim}
+use mathlib.Core.Bool.{Bool, true, false, _&&_}
+use mathlib.Core.Logic.{⊎-elim}
 use mathlib.Core.Option.{Option, none, some}
 use mathlib.Core.List.{
   List,
@@ -26,21 +26,17 @@ use mathlib.Core.List.{
 }
 use borrow.Author.Tests.{eqb-true, eqb-false, eq-eqb, leb-true, le-leb}
 use lib.Dec.{eqb, leb, lit<}
-use lib.ListN.{length, drop, length-map, length-drop, drop-of-length-le}
+use lib.ListN.{length, drop, length-map, drop-of-length-le}
 use Rattle.policy.specs.Claims.{Policy}
 use Rattle.policy.specs.Policy.{sameAction, most-rules}
 use Rattle.policy.specs.Rule.{Range, Rule}
-use Rattle.policy.specs.Command.{Coded, coded, commandType}
 use Rattle.policy.specs.declared.Action.{Action}
 use Rattle.policy.specs.declared.Action.the-variants.{Deny, Permit}
-use Rattle.policy.specs.declared.Command.{Command}
-use Rattle.policy.specs.declared.Command.the-variants.{App, DelRule, Ins, DelPlace, Mov}
 use Rattle.policy.proofs.Decisions.{same-action-eq, eq-same-action}
 use Rattle.policy.proofs.Order.{sublist-in}
-use Rattle.policy.proofs.Tests.{byTest, never, and-both, both-and, or-either, or-left, or-right, or-neither, falsely}
+use Rattle.policy.proofs.Tests.{byTest, never, and-both, both-and, or-either, or-left, or-right, falsely}
 use Rattle.deployment.specs.Bytes.{number, bytesOf, part, chunks, joined}
 use Rattle.deployment.specs.Values.{
-  Script,
   actionOf,
   actionNumber,
   rangeAt,
@@ -54,18 +50,10 @@ use Rattle.deployment.specs.Values.{
   known,
   numbersOf,
   numbersBytes,
-  commandFrom,
-  codedOf,
-  codedBytes,
-  everyCommand,
-  commandChunks,
-  scriptOf,
-  scriptBytes,
 }
-use Rattle.deployment.specs.Properties.{AreBytes, Sized, Recordable, Scripted, RightScript, NoCommand, WrongCoding}
+use Rattle.deployment.specs.Properties.{AreBytes, Sized, Recordable}
 use Rattle.deployment.proofs.Bytes.{
   are-bytes-append,
-  are-bytes-drop,
   length-bytes,
   bytes-are-bytes,
   number-bytes,
@@ -382,318 +370,3 @@ policy-numbers size policy few h = numbers-read policy (λ n t. omega (arith, h 
 pub keep-numbers : (size : ℕ) (policy keep : List ℕ) → size ≤ most-rules → Policy size policy → Sublistᴰ keep policy
     → numbersOf (numbersBytes keep) ≡ keep
 keep-numbers size policy keep few h within = numbers-read keep (λ n t. omega (arith, h .inside n (sublist-in within n t)))
-
--- Commands.
-pub command-read : (c : Command) → commandFrom (commandType c) (coded c) ≡ some c
-unfolding commandFrom commandType coded
-command-read (App r) = refl
-command-read (DelRule r) = refl
-command-read (Ins i r) = refl
-command-read (DelPlace i) = refl
-command-read (Mov i j) = refl
-
--- the command that the definition builds where its tests pass: without a second number, and with one
-abbrev Is : ℕ → Coded → Command → Type 0
-Is type n c = (coded c ≡ n) × (commandType c ≡ type)
-
-is-short : (type : ℕ) (n : Coded) (c : Command) (t k : ℕ) → coded c ≡ record { code = k; one = n .one; two = 0 }
-    → commandType c ≡ t → (eqb type t && eqb (n .code) k && eqb (n .two) 0) ≡ true → Is type n c
-is-short type n c t k e f h =
-    let p = and-both (eqb type t && eqb (n .code) k) (eqb (n .two) 0) h in
-    let q = and-both (eqb type t) (eqb (n .code) k) (p .0) in
-    let code : k ≡ n .code = sym (eqb-true (n .code) k (q .1)) in
-    let two : 0 ≡ n .two = sym (eqb-true (n .two) 0 (p .1)) in
-    (e ∙ (λ i. record { code = code i; one = n .one; two = two i }), f ∙ sym (eqb-true type t (q .0)))
-
-is-long : (type : ℕ) (n : Coded) (c : Command) (t k : ℕ) → coded c ≡ record { code = k; one = n .one; two = n .two }
-    → commandType c ≡ t → (eqb type t && eqb (n .code) k) ≡ true → Is type n c
-is-long type n c t k e f h =
-    let q = and-both (eqb type t) (eqb (n .code) k) h in
-    let code : k ≡ n .code = sym (eqb-true (n .code) k (q .1)) in
-    (e ∙ (λ i. record { code = code i; one = n .one; two = n .two }), f ∙ sym (eqb-true type t (q .0)))
-
-same-is : (type : ℕ) (n : Coded) (c d : Command) → some d ≡ some c → Is type n d → Is type n c
-same-is type n c d e h = let same : d ≡ c = cc in rw same at h
-
-pub command-written : (type : ℕ) (n : Coded) (c : Command) → commandFrom type n ≡ some c → (coded c ≡ n) × (commandType c ≡ type)
-unfolding commandFrom commandType coded
-command-written type n c e =
-    byTest (eqb type 1 && eqb (n .code) 1 && eqb (n .two) 0)
-    (λ t. same-is type n c (App (n .one)) (rw t at e) (is-short type n (App (n .one)) 1 1 refl refl t))
-    (λ f₁. byTest (eqb type 1 && eqb (n .code) 2 && eqb (n .two) 0)
-    (λ t. same-is type n c (DelRule (n .one)) (rw (f₁, t) at e) (is-short type n (DelRule (n .one)) 1 2 refl refl t))
-    (λ f₂. byTest (eqb type 2 && eqb (n .code) 3)
-    (λ t. same-is type n c (Ins (n .one) (n .two)) (rw (f₁, f₂, t) at e) (is-long type n (Ins (n .one) (n .two)) 2 3 refl refl t))
-    (λ f₃. byTest (eqb type 2 && eqb (n .code) 4 && eqb (n .two) 0)
-    (λ t. same-is type n c (DelPlace (n .one)) (rw (f₁, f₂, f₃, t) at e) (is-short type n (DelPlace (n .one)) 2 4 refl refl t))
-    (λ f₄. byTest (eqb type 2 && eqb (n .code) 5)
-    (λ t. same-is type n c (Mov (n .one) (n .two)) (rw (f₁, f₂, f₃, f₄, t) at e)
-    (is-long type n (Mov (n .one) (n .two)) 2 5 refl refl t))
-    (λ f₅. let clash : none ≡ some c = rw (f₁, f₂, f₃, f₄, f₅) at e in none-some clash)))))
-
--- five bytes a command
-code-small : (c : Command) → (coded c) .code < 256
-unfolding coded
-code-small (App r) = omega arith
-code-small (DelRule r) = omega arith
-code-small (Ins i r) = omega arith
-code-small (DelPlace i) = omega arith
-code-small (Mov i j) = omega arith
-
-coded-read : (n : Coded) → n .code < 256 → n .one < 65536 → n .two < 65536 → codedOf (codedBytes n) ≡ n
-unfolding codedOf codedBytes part bytesOf
-coded-read n hc h1 h2 =
-    let code : number (part 0 1 (codedBytes n)) ≡ n .code = number-bytes 1 (n .code) hc in
-    let one : number (part 1 2 (codedBytes n)) ≡ n .one = number-bytes 2 (n .one) h1 in
-    let two : number (part 3 2 (codedBytes n)) ≡ n .two = number-bytes 2 (n .two) h2 in
-    λ i. record { code = code i; one = one i; two = two i }
-
-length-coded : (n : Coded) → length (codedBytes n) ≡ 5
-unfolding codedBytes bytesOf
-length-coded n = refl
-
-coded-are-bytes : (n : Coded) → AreBytes (codedBytes n)
-unfolding codedBytes
-coded-are-bytes n =
-    are-bytes-append _ _ (bytes-are-bytes 1 (n .code))
-    (are-bytes-append _ _ (bytes-are-bytes 2 (n .one)) (bytes-are-bytes 2 (n .two)))
-
-coded-written : (bytes : List ℕ) → AreBytes bytes → length bytes ≡ 5 → codedBytes (codedOf bytes) ≡ bytes
-unfolding codedOf codedBytes
-coded-written bytes h long =
-    let last : part 3 2 bytes ≡ drop 3 bytes =
-    sym (append-nil (part 3 2 bytes))
-    ∙ ap (λ (l : List ℕ). part 3 2 bytes ++ l) (sym (drop-of-length-le bytes {i = 5} (omega arith)))
-    ∙ part-rest 3 2 bytes in
-    rw (
-      part-written 0 1 bytes h (omega arith),
-      part-written 1 2 bytes h (omega arith),
-      part-written 3 2 bytes h (omega arith),
-      last,
-      part-rest 1 2 bytes,
-      part-rest 0 1 bytes,
-    )
-
--- All commands of a script. A command's numbers have two bytes.
-abbrev commandBytes : Command → List ℕ
-commandBytes c = codedBytes (coded c)
-
-record Holdable (type : ℕ) (c : Command) : Type 0 where
-  typed : commandType c ≡ type
-  one : (coded c) .one < 65536
-  two : (coded c) .two < 65536
-
-every-read : (type : ℕ) (commands : List Command) → ((c : Command) → List·Memᴰ c commands → Holdable type c)
-    → everyCommand type (map commandBytes commands) ≡ some commands
-unfolding everyCommand
-every-read type [] h = refl
-every-read type (c ∷ commands) h =
-    let holds = h c (List·Memᴰ·head refl) in
-    let first : commandFrom type (codedOf (codedBytes (coded c))) ≡ some c =
-    rw (coded-read (coded c) (code-small c) (holds .one) (holds .two), ← holds .typed) (command-read c) in
-    let others = every-read type commands (λ d t. h d (List·Memᴰ·tail t)) in
-    rw (first, everyCommand) (rw others)
-
-piece-written : (type : ℕ) (piece : List ℕ) (c : Command) → AreBytes piece → length piece ≡ 5
-    → commandFrom type (codedOf piece) ≡ some c → (codedBytes (coded c) ≡ piece) × Holdable type c
-unfolding codedOf
-piece-written type piece c h long e =
-    let is = command-written type (codedOf piece) c e in
-    let one : (codedOf piece) .one < 65536 = part-fits 1 2 piece h (omega arith) in
-    let two : (codedOf piece) .two < 65536 = part-fits 3 2 piece h (omega arith) in (
-      ap codedBytes (is .0) ∙ coded-written piece h long,
-      record { typed = is .1; one = rw (is .0) one; two = rw (is .0) two },
-    )
-
-every-written : (type : ℕ) (pieces : List (List ℕ)) (commands : List Command) → everyCommand type pieces ≡ some commands
-    → ((piece : List ℕ) → List·Memᴰ piece pieces → AreBytes piece × (length piece ≡ 5))
-    → (map commandBytes commands ≡ pieces) × ((c : Command) → List·Memᴰ c commands → Holdable type c)
-unfolding everyCommand
-every-written type [] commands e h =
-    let empty : commands ≡ [] = cc in
-    rw empty (refl, λ c t. absurd (List·Memᴰ·not-nil t))
-every-written type (piece ∷ pieces) commands e h =
-    byOption (commandFrom type (codedOf piece))
-    (λ absent. none-some (rw (absent, everyCommand) at e))
-    (λ c is. byOption (everyCommand type pieces)
-    (λ absent. none-some (rw absent at (rw (is, everyCommand) at e)))
-    (λ others rest.
-    let whole : some (c ∷ others) ≡ some commands = rw rest at (rw (is, everyCommand) at e) in
-    let same : commands ≡ c ∷ others = cc in
-    let bytes = h piece (List·Memᴰ·head refl) in
-    let first = piece-written type piece c (bytes .0) (bytes .1) is in
-    let below = every-written type pieces others rest (λ other t. h other (List·Memᴰ·tail t)) in
-    rw same (
-      (λ i. first .0 i ∷ below .0 i),
-      λ d t. ⊎-elim (λ e. rw e (first .1)) (λ k. below .1 d k) (List·Memᴰ·cases-cons t),
-    )))
-
--- one piece that is no command
-every-none : (type : ℕ) (pieces : List (List ℕ)) → everyCommand type pieces ≡ none
-    → (piece : List ℕ) × List·Memᴰ piece pieces × (commandFrom type (codedOf piece) ≡ none)
-unfolding everyCommand
-every-none type [] e = none-some (sym e)
-every-none type (piece ∷ pieces) e =
-    byOption (commandFrom type (codedOf piece))
-    (λ absent. (piece, List·Memᴰ·head refl, absent))
-    (λ c is. byOption (everyCommand type pieces)
-    (λ absent. let below = every-none type pieces absent in (below .0, List·Memᴰ·tail (below .1), below .2))
-    (λ others rest. none-some (sym (rw rest at (rw (is, everyCommand) at e)))))
-
-none-every : (type : ℕ) (pieces : List (List ℕ)) (piece : List ℕ) → List·Memᴰ piece pieces
-    → commandFrom type (codedOf piece) ≡ none → everyCommand type pieces ≡ none
-unfolding everyCommand
-none-every type [] piece t e = absurd (List·Memᴰ·not-nil t)
-none-every type (first ∷ pieces) piece t e =
-    ⊎-elim
-    (λ same. let absent : commandFrom type (codedOf first) ≡ none = rw same at e in rw (absent, everyCommand) refl)
-    (λ k. byOption (commandFrom type (codedOf first))
-    (λ absent. rw (absent, everyCommand) refl)
-    (λ c is. rw (is, everyCommand) (rw (none-every type pieces piece k e))))
-    (List·Memᴰ·cases-cons t)
-
--- Scripts: a type byte, then the commands.
-five-bytes : (commands : List Command) (piece : List ℕ) → List·Memᴰ piece (map commandBytes commands) → length piece ≡ 5
-five-bytes commands piece t =
-    let at = Memᴰ·of-map commandBytes commands t in
-    rw (← at .2) (length-coded (coded (at .0)))
-
-pub length-script : (s : Script) → length (scriptBytes s) ≡ 1 + 5 * length (s .commands)
-unfolding scriptBytes bytesOf
-length-script s =
-    omega (
-      arith,
-      length-joined 5 (map commandBytes (s .commands)) (five-bytes (s .commands)),
-      length-map (s .commands) commandBytes,
-    )
-
-pub script-are-bytes : (s : Script) → AreBytes (scriptBytes s)
-unfolding scriptBytes
-script-are-bytes s =
-    are-bytes-append _ _ (bytes-are-bytes 1 (s .type))
-    (are-bytes-joined (map commandBytes (s .commands))
-    (λ piece t.
-    let at = Memᴰ·of-map commandBytes (s .commands) t in
-    rw (← at .2) (coded-are-bytes (coded (at .0)))))
-
-commands-at : (value : List ℕ) (count : ℕ) → length value ≡ 1 + 5 * count → commandChunks value ≡ chunks 5 count (drop 1 value)
-unfolding commandChunks
-commands-at value count long =
-    let counted : (length value - 1) / 5 ≡ count = omega arith in
-    rw counted
-
-type-at : (s : Script) → s .type < 256 → number (part 0 1 (scriptBytes s)) ≡ s .type
-unfolding scriptBytes bytesOf part
-type-at s h = number-bytes 1 (s .type) h
-
-chunks-at : (s : Script) → commandChunks (scriptBytes s) ≡ map commandBytes (s .commands)
-unfolding scriptBytes bytesOf
-chunks-at s =
-    commands-at (scriptBytes s) (length (s .commands)) (length-script s)
-    ∙ (rw length-map at (chunks-joined 5 (map commandBytes (s .commands)) (five-bytes (s .commands))))
-
-type-known : (type : ℕ) → (type ≡ 1) ⊎ (type ≡ 2) → (eqb type 1 || eqb type 2) ≡ true
-type-known type h =
-    ⊎-elim (λ e. or-left (eqb type 2) (eq-eqb type 1 e)) (λ e. or-right (eqb type 1) (eq-eqb type 2 e)) h
-
-pub script-read : (s : Script) → Scripted s → scriptOf (scriptBytes s) ≡ some s
-unfolding scriptOf
-script-read s h =
-    let type : number (part 0 1 (scriptBytes s)) ≡ s .type = type-at s (⊎-elim (λ e. omega arith) (λ e. omega arith) (h .type)) in
-    let commands : everyCommand (s .type) (commandChunks (scriptBytes s)) ≡ some (s .commands) =
-    rw (chunks-at s)
-    (every-read (s .type) (s .commands) (λ c t. record { typed = h .typed c t; one = h .one c t; two = h .two c t })) in
-    rw (type, type-known (s .type) (h .type), commands, type)
-
--- what a script is read from
-pub script-of : (value : List ℕ) (s : Script) → scriptOf value ≡ some s
-    → ((s .type ≡ 1) ⊎ (s .type ≡ 2)) × (s .type ≡ number (part 0 1 value))
-    × (everyCommand (s .type) (commandChunks value) ≡ some (s .commands))
-unfolding scriptOf
-script-of value s e =
-    let type = number (part 0 1 value) in
-    byTest (eqb type 1 || eqb type 2)
-    (λ t. byOption (everyCommand type (commandChunks value))
-    (λ absent. none-some (rw (t, absent) at e))
-    (λ commands is.
-    let whole : some (record { type = type; commands = commands }) ≡ some s = rw (t, is) at e in
-    let same : record { type = type; commands = commands } ≡ s = cc in
-    rw (← same) (
-      ⊎-elim (λ a. inl (eqb-true type 1 a)) (λ a. inr (eqb-true type 2 a)) (or-either (eqb type 1) (eqb type 2) t),
-      refl,
-      is,
-    )))
-    (λ f. none-some (rw f at e))
-
--- bytes of the right length that are read as a script are those of the script, and a file can hold it
-module _ (value : List ℕ) (h : AreBytes value) (right : RightScript (length value)) (s : Script)
-    (e : scriptOf value ≡ some s) where
-  commands-long : length (drop 1 value) ≡ 5 * right .0
-  commands-long = omega (arith, length-drop 1 value, right .1)
-
-  pieces-written : (map commandBytes (s .commands) ≡ chunks 5 (right .0) (drop 1 value))
-      × ((c : Command) → List·Memᴰ c (s .commands) → Holdable (s .type) c)
-  pieces-written =
-      every-written (s .type) (chunks 5 (right .0) (drop 1 value)) (s .commands)
-      (rw (commands-at value (right .0) (right .1)) at (script-of value s e .2))
-      (λ piece t. (
-        are-bytes-chunk 5 (right .0) (drop 1 value) (are-bytes-drop 1 value h) piece t,
-        chunk-length 5 (right .0) (drop 1 value) commands-long piece t,
-      ))
-
-  pub script-written : scriptBytes s ≡ value
-  unfolding scriptBytes
-  script-written =
-      rw (
-        pieces-written .0,
-        joined-chunks 5 (right .0) (drop 1 value) commands-long,
-        script-of value s e .1,
-        part-written 0 1 value h (omega (arith, right .1)),
-        part-rest 0 1 value,
-      )
-
-  pub script-scripted : Scripted s
-  script-scripted =
-      let counted : length (s .commands) ≡ right .0 =
-      sym (length-map (s .commands) commandBytes) ∙ ap length (pieces-written .0)
-      ∙ length-chunks 5 (right .0) (drop 1 value) in
-      record {
-        type = script-of value s e .0;
-        few = rw counted (right .2);
-        typed = λ c t. pieces-written .1 c t .typed;
-        one = λ c t. pieces-written .1 c t .one;
-        two = λ c t. pieces-written .1 c t .two;
-      }
-
--- 11: what is no script
-none-no-command : (type : ℕ) (piece : List ℕ) → commandFrom type (codedOf piece) ≡ none → NoCommand type piece
-none-no-command type piece absent c typed is =
-    none-some (sym absent ∙ (rw (typed, is) at (command-read c)))
-
-no-command-none : (type : ℕ) (piece : List ℕ) → NoCommand type piece → commandFrom type (codedOf piece) ≡ none
-no-command-none type piece h =
-    byOption (commandFrom type (codedOf piece)) (λ absent. absent)
-    (λ c is. let at = command-written type (codedOf piece) c is in absurd (h c (at .1) (at .0)))
-
-pub none-wrong : (value : List ℕ) → scriptOf value ≡ none → WrongCoding value
-unfolding scriptOf
-none-wrong value e =
-    let type = number (part 0 1 value) in
-    byTest (eqb type 1 || eqb type 2)
-    (λ t. byOption (everyCommand type (commandChunks value))
-    (λ absent. let at = every-none type (commandChunks value) absent in inr (at .0, at .1, none-no-command type (at .0) (at .2)))
-    (λ commands is. none-some (sym (rw (t, is) at e))))
-    (λ f.
-    let neither = or-neither (eqb type 1) (eqb type 2) f in
-    inl (eqb-false type 1 (neither .0), eqb-false type 2 (neither .1)))
-
-pub wrong-none : (value : List ℕ) → WrongCoding value → scriptOf value ≡ none
-wrong-none value w =
-    byOption (scriptOf value) (λ absent. absent)
-    (λ s is.
-    let at = script-of value s is in
-    ⊎-elim
-    (λ neither. absurd (⊎-elim (λ e. neither .0 (sym (at .1) ∙ e)) (λ e. neither .1 (sym (at .1) ∙ e)) (at .0)))
-    (λ bad. none-some (sym (none-every (number (part 0 1 value)) (commandChunks value) (bad .0) (bad .1)
-    (no-command-none (number (part 0 1 value)) (bad .0) (bad .2))) ∙ (rw (at .1) at (at .2))))
-    w)

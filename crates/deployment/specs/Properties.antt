@@ -8,8 +8,8 @@ use mathlib.Core.Option.{Option, none, some}
 use lib.ListN.{length}
 use Rattle.policy.specs.Policy.{most-rules, most-listed, most-commands}
 use Rattle.policy.specs.Rule.{Range, Rule}
-use Rattle.policy.specs.Command.{coded, commandType}
-use Rattle.policy.specs.Properties.{Distinct}
+use Rattle.policy.specs.Command.{coded}
+use Rattle.policy.specs.Properties.{Distinct, Allows, ScriptType}
 use Rattle.policy.specs.Claims.{Policy, Keepable}
 use Rattle.policy.specs.declared.Command.{Command}
 use Rattle.policy.specs.declared.Flow.{Flow}
@@ -88,11 +88,11 @@ pub record Listed (size : ℕ) (policy : List ℕ) : Type 0 where
   pub few : length policy ≤ most-listed
   pub sound : Policy size policy
 
--- a script that a file can hold: its type is 1 or 2, its commands are of that type, their numbers have two bytes
+-- a script that a file can hold: there are scripts of its type, the type allows its commands, their numbers have two bytes
 pub record Scripted (script : Script) : Type 0 where
-  pub type : (script .type ≡ 1) ⊎ (script .type ≡ 2)
+  pub type : ScriptType (script .type)
   pub few : length (script .commands) ≤ most-commands
-  pub typed : (c : Command) → List·Memᴰ c (script .commands) → commandType c ≡ script .type
+  pub typed : (c : Command) → List·Memᴰ c (script .commands) → Allows (script .type) c
   pub one : (c : Command) → List·Memᴰ c (script .commands) → (coded c) .one < 65536
   pub two : (c : Command) → List·Memᴰ c (script .commands) → (coded c) .two < 65536
 
@@ -203,13 +203,13 @@ NamesOutside size policy = (r : ℕ) × List·Memᴰ r policy × (size ≤ r)
 abbrev pub InOrder : List ℕ → List ℕ → List ℕ → Type 0
 InOrder initial target keep = Sublistᴰ keep initial × Sublistᴰ keep target
 
--- 11: "script type, code or unused number wrong": the type is neither 1 nor 2, or some five bytes are no command of that type
+-- 11: "script type, code or unused number wrong": there are no scripts of the type, or some five bytes are no command that it allows
 abbrev pub NoCommand : ℕ → List ℕ → Type 0
-NoCommand type bytes = (c : Command) → commandType c ≡ type → ¬ (coded c ≡ codedOf bytes)
+NoCommand type bytes = (c : Command) → Allows type c → ¬ (coded c ≡ codedOf bytes)
 
 abbrev pub WrongCoding : List ℕ → Type 0
 WrongCoding value =
-    (¬ (number (part 0 1 value) ≡ 1) × ¬ (number (part 0 1 value) ≡ 2))
+    ¬ ScriptType (number (part 0 1 value))
     ⊎ ((bytes : List ℕ) × List·Memᴰ bytes (commandChunks value) × NoCommand (number (part 0 1 value)) bytes)
 
 -- "In one field: 1 for the head, 2, 7, 4, 1 for the value, then ..": what has passed

@@ -8,7 +8,8 @@ use lib.ListN.{length, drop}
 use lib.Dec.{eqb, leb}
 use Rattle.policy.specs.Policy.{sameAction, most-listed, most-commands}
 use Rattle.policy.specs.Rule.{Range, Rule}
-use Rattle.policy.specs.Command.{Coded, coded}
+use Rattle.policy.specs.Lists.{mem}
+use Rattle.policy.specs.Command.{Coded, coded, codesOf, isType}
 use Rattle.policy.specs.declared.Action.{Action}
 use Rattle.policy.specs.declared.Action.the-variants.{Deny, Permit}
 use Rattle.policy.specs.declared.Command.{Command}
@@ -97,15 +98,19 @@ pub record Script : Type 0 where
   pub type : ℕ
   pub commands : List Command
 
--- a command from its type, its code and its two numbers: 11 where the code is another, or where a number that isn't used isn't 0
-unfoldable pub commandFrom : ℕ → Coded → Option Command
-commandFrom type c =
-    cond (eqb type 1 && eqb (c .code) 1 && eqb (c .two) 0) (some (App (c .one)))
-    (cond (eqb type 1 && eqb (c .code) 2 && eqb (c .two) 0) (some (DelRule (c .one)))
-    (cond (eqb type 2 && eqb (c .code) 3) (some (Ins (c .one) (c .two)))
-    (cond (eqb type 2 && eqb (c .code) 4 && eqb (c .two) 0) (some (DelPlace (c .one)))
-    (cond (eqb type 2 && eqb (c .code) 5) (some (Mov (c .one) (c .two)))
+-- a command from its code and its two numbers: nothing where the code is another, or where a number that isn't used isn't 0
+unfoldable pub commandOf : Coded → Option Command
+commandOf c =
+    cond (eqb (c .code) 1 && eqb (c .two) 0) (some (App (c .one)))
+    (cond (eqb (c .code) 2 && eqb (c .two) 0) (some (DelRule (c .one)))
+    (cond (eqb (c .code) 3) (some (Ins (c .one) (c .two)))
+    (cond (eqb (c .code) 4 && eqb (c .two) 0) (some (DelPlace (c .one)))
+    (cond (eqb (c .code) 5) (some (Mov (c .one) (c .two)))
     none))))
+
+-- and one of a script of the given type: 11 also where the type doesn't allow the code
+unfoldable pub commandFrom : ℕ → Coded → Option Command
+commandFrom type c = cond (mem (c .code) (codesOf type)) (commandOf c) none
 
 unfoldable pub codedOf : List ℕ → Coded
 codedOf bytes = record { code = number (part 0 1 bytes); one = number (part 1 2 bytes); two = number (part 3 2 bytes) }
@@ -129,7 +134,7 @@ commandChunks value = chunks 5 ((length value - 1) / 5) (drop 1 value)
 unfoldable pub scriptOf : List ℕ → Option Script
 scriptOf value =
     let type = number (part 0 1 value) in
-    cond (eqb type 1 || eqb type 2)
+    cond (isType type)
     (elim (everyCommand type (commandChunks value)) [
       | none ↦ none
       | some commands ↦ some (record { type = type; commands = commands })

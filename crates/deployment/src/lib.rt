@@ -6,9 +6,10 @@ ghost use lib.ListN.{length, getD};
 ghost use lib.Seq.{sets};
 ghost use Rattle.deployment.specs.Checked.{whyNumber};
 ghost use Rattle.deployment.specs.Bytes.{number, part};
-ghost use Rattle.deployment.specs.Values.{numbersOf, commandFrom, codedBytes};
+ghost use Rattle.deployment.specs.Values.{numbersOf, commandOf, commandFrom, codedBytes};
 ghost use Rattle.deployment.specs.Commands.{commandCount, commandAt, decoded};
-ghost use Rattle.policy.specs.Command.{coded};
+ghost use Rattle.policy.specs.Lists.{mem};
+ghost use Rattle.policy.specs.Command.{coded, codesOf, isType};
 use policy::Command;
 
 // "a rule, 27 bytes"
@@ -118,35 +119,62 @@ pub enum Decoded {
     Wrong,
 }
 
-// "Type 1: code 1 `app r`, code 2 `del r`. Type 2: code 3 `ins i r`, code 4 `del i`, code 5 `mov i j`"; a number that isn't used is 0.
-pub fn decode(kind: u8, code: u8, one: u16, two: u16) -> Decoded
-    ensures { λ d. ⌜ d ≡ decoded (commandFrom kind (record { code = code; one = one; two = two })) ⌝ }
+// "Type 1: code 1 `app r`, code 2 `del r`. Type 2: code 3 `ins i r`, code 4 `del i`, code 5 `mov i j`": whether a script type allows a code.
+fn allows(kind: u8, code: u8) -> bool
+    ensures { λ r. ⌜ r ≡ mem code (codesOf kind) ⌝ }
 {
-    if kind == Command::APPEND_DELETE {
-        if two != 0 {
-            return Decoded::Wrong;
-        }
-        return match code {
-            Command::APP => Decoded::Is(Command::App(one)),
-            Command::DEL_RULE => Decoded::Is(Command::DelRule(one)),
-            _ => Decoded::Wrong,
-        };
+    match kind {
+        Command::APPEND_DELETE => match code {
+            Command::APP | Command::DEL_RULE => true,
+            _ => false,
+        },
+        Command::INSERT_DELETE_MOVE => match code {
+            Command::INS | Command::DEL_PLACE | Command::MOV => true,
+            _ => false,
+        },
+        _ => false,
     }
-    if kind != Command::INSERT_DELETE_MOVE {
+}
+
+// Whether there are scripts of a type: it allows the code of some command.
+pub fn is_type(kind: u8) -> bool
+    ensures { λ r. ⌜ r ≡ isType kind ⌝ }
+{
+    allows(kind, Command::APP)
+        || (allows(kind, Command::DEL_RULE)
+            || (allows(kind, Command::INS)
+                || (allows(kind, Command::DEL_PLACE) || allows(kind, Command::MOV))))
+}
+
+// The command of a code; a number that isn't used is 0.
+fn command_of(code: u8, one: u16, two: u16) -> Decoded
+    ensures { λ d. ⌜ d ≡ decoded (commandOf (record { code = code; one = one; two = two })) ⌝ }
+{
+    if code == Command::INS {
+        return Decoded::Is(Command::Ins(one, two));
+    }
+    if code == Command::MOV {
+        return Decoded::Is(Command::Mov(one, two));
+    }
+    if two != 0 {
         return Decoded::Wrong;
     }
     match code {
-        Command::INS => Decoded::Is(Command::Ins(one, two)),
-        Command::MOV => Decoded::Is(Command::Mov(one, two)),
-        Command::DEL_PLACE => {
-            if two == 0 {
-                Decoded::Is(Command::DelPlace(one))
-            } else {
-                Decoded::Wrong
-            }
-        }
+        Command::APP => Decoded::Is(Command::App(one)),
+        Command::DEL_RULE => Decoded::Is(Command::DelRule(one)),
+        Command::DEL_PLACE => Decoded::Is(Command::DelPlace(one)),
         _ => Decoded::Wrong,
     }
+}
+
+// The command of a script of the given type.
+pub fn decode(kind: u8, code: u8, one: u16, two: u16) -> Decoded
+    ensures { λ d. ⌜ d ≡ decoded (commandFrom kind (record { code = code; one = one; two = two })) ⌝ }
+{
+    if !allows(kind, code) {
+        return Decoded::Wrong;
+    }
+    command_of(code, one, two)
 }
 
 // How many commands a script value has.

@@ -17,7 +17,8 @@ use Rattle.deployment.specs.FieldValues.{FieldValues, readValues}
 use Rattle.deployment.specs.Properties.{AreBytes, Scripted, Valid}
 use Rattle.deployment.specs.Claims.{valuesOf}
 use Rattle.deployment.specs.declared.Refusal.{Refusal}
-use Rattle.deployment.proofs.Values.{byOption, none-some, script-read}
+use Rattle.deployment.proofs.Values.{byOption, none-some}
+use Rattle.deployment.proofs.Scripts.{script-read}
 use Rattle.reader.specs.Answers.{given, valuesGiven, valueAt, shown}
 use Rattle.reader.specs.declared.Layout.{Layout}
 use Rattle.reader.specs.declared.FileRead.the-variants.{Accepted}

@@ -11,6 +11,7 @@ use lib.ListN.{length, take, drop, length-append}
 use Rattle.policy.specs.AppendDelete.{keptRun, planOne}
 use Rattle.policy.specs.InsertDeleteMove.{keptTwo, planTwo}
 use Rattle.policy.specs.declared.Command.{Command}
+use Rattle.policy.proofs.Types.{script-types}
 use Rattle.policy.proofs.AppendDelete.{plan-one-count, plan-one-reaches}
 use Rattle.policy.proofs.InsertDeleteMove.{plan-two-count, plan-two-reaches}
 use Rattle.deployment.specs.Bytes.{number, part}
@@ -129,8 +130,8 @@ plans-short c valid =
     let few = plans-few c valid in
     let one = planOne (c .initial) (c .target) in
     let two = planTwo (c .initial) (c .target) (c .keep) in
-    let right-one = scripted c valid 1 (inl refl) one (few .0) (plan-one-reaches size (c .initial) (c .target) first last) in
-    let right-two = scripted c valid 2 (inr refl) two (few .1) (plan-two-reaches size (c .initial) (c .target) (c .keep) lists) in
+    let right-one = scripted c valid 1 (script-types 1 .types .1 (inl refl)) one (few .0) (plan-one-reaches size (c .initial) (c .target) first last) in
+    let right-two = scripted c valid 2 (script-types 2 .types .1 (inr refl)) two (few .1) (plan-two-reaches size (c .initial) (c .target) (c .keep) lists) in
     let count-one = plan-one-count (c .initial) (c .target) (first .distinct) in
     let count-two = plan-two-count size (c .initial) (c .target) (c .keep) lists in
     let i : length (c .initial) ≤ 512 = valid .initial .few in

@@ -6,19 +6,19 @@ use mathlib.Core.Path.{_≡_, refl, sym, _∙_, ap}
 use mathlib.Core.Logic.{inl, inr, _⊎_, ⊎-elim}
 use mathlib.Core.Bool.{true}
 use mathlib.Core.List.{List, [], _∷_, List·Memᴰ, List·Memᴰ·cases-cons, List·Memᴰ·not-nil}
-use borrow.Author.Tests.{eqb-true, leb-true, leb-false}
-use lib.Dec.{eqb, leb}
+use borrow.Author.Tests.{leb-true, leb-false}
+use lib.Dec.{leb}
 use lib.ListN.{length, drop, length-append}
 use lib.Seq.{drop-at}
-use Rattle.policy.specs.Command.{coded, commandType, ofType}
+use Rattle.policy.specs.Command.{coded, ofType}
 use Rattle.policy.specs.AppendDelete.{planOne}
 use Rattle.policy.specs.InsertDeleteMove.{planTwo}
-use Rattle.policy.specs.Properties.{Makes, Leads}
+use Rattle.policy.specs.Properties.{Makes, Leads, ScriptType}
 use Rattle.policy.specs.Claims.{Policy, Accepted}
 use Rattle.policy.specs.declared.Command.{Command}
 use Rattle.policy.specs.declared.Command.the-variants.{App, DelRule, Ins, DelPlace, Mov}
 use Rattle.policy.proofs.Tests.{byTest}
-use Rattle.policy.proofs.Lists.{all-in}
+use Rattle.policy.proofs.Types.{of-type-allows, script-types}
 use Rattle.policy.proofs.Counting.{inside-length}
 use Rattle.policy.proofs.Commands.{makes-policy}
 use Rattle.policy.proofs.AppendDelete.{plan-one-count, plan-one-reaches}
@@ -35,7 +35,7 @@ use Rattle.deployment.specs.Properties.{Scripted, Valid}
 use Rattle.deployment.specs.declared.Why.the-variants.{Room}
 use Rattle.deployment.specs.declared.Refusal.{Refusal}
 use Rattle.deployment.proofs.Numbers.{both-same, numbers-say}
-use Rattle.deployment.proofs.Values.{length-script, script-read}
+use Rattle.deployment.proofs.Scripts.{length-script, script-read}
 use Rattle.deployment.proofs.ReadBack.{tag-read, size-read, value-read}
 use Rattle.planner.specs.Plans.{
   Made,
@@ -96,16 +96,15 @@ leads-two-bytes size l n (d ∷ script) small policy (m, made, rest) c t =
     (List·Memᴰ·cases-cons t)
 
 -- A script of one type that leads from one policy to the other can stand in a file.
-pub scripted : (c : Contents) → Valid c → (type : ℕ) → (type ≡ 1) ⊎ (type ≡ 2) → (commands : List Command) → length commands ≤ 1024
+pub scripted : (c : Contents) → Valid c → (type : ℕ) → ScriptType type → (commands : List Command) → length commands ≤ 1024
     → (ofType type commands ≡ true) × Leads (length (c .catalogue)) (c .initial) commands (c .target)
     → Scripted (record { type = type; commands = commands })
-unfolding ofType
-scripted c valid type either commands few (typed, leads) =
+scripted c valid type legal commands few (typed, leads) =
     let small = leads-two-bytes (length (c .catalogue)) (c .initial) (c .target) commands (valid .catalogue .few) (valid .initial .sound) leads in
     record {
-      type = either;
+      type = legal;
       few = omega arith;
-      typed = λ d t. eqb-true (commandType d) type (all-in (λ e. eqb (commandType e) type) commands typed d t);
+      typed = of-type-allows type commands typed;
       one = λ d t. small d t .0;
       two = λ d t. small d t .1;
     }
@@ -164,7 +163,7 @@ one-holds c place plan valid e =
     let first = valid .initial .sound in
     let last = valid .target .sound in
     let reaches = plan-one-reaches size (c .initial) (c .target) first last in
-    let right = scripted c valid 1 (inl refl) commands (plans-few c valid .0) reaches in
+    let right = scripted c valid 1 (script-types 1 .types .1 (inl refl)) commands (plans-few c valid .0) reaches in
     let so = made-holds (madeOne c) right place plan e in
     let counted = so .1 .counted in
     let kept = ap (λ (p : Plan). p .kept) (so .0) in
@@ -187,7 +186,7 @@ two-holds c place plan valid e =
     let commands = planTwo (c .initial) (c .target) (c .keep) in
     let lists = lists-accepted c valid in
     let reaches = plan-two-reaches size (c .initial) (c .target) (c .keep) lists in
-    let right = scripted c valid 2 (inr refl) commands (plans-few c valid .1) reaches in
+    let right = scripted c valid 2 (script-types 2 .types .1 (inr refl)) commands (plans-few c valid .1) reaches in
     let so = made-holds (madeTwo c) right place plan e in
     let kept = ap (λ (p : Plan). p .kept) (so .0) in
     record {

@@ -13,7 +13,7 @@ use Rattle.deployment.specs.Bytes.{bytesOf, joined}
 use Rattle.deployment.specs.Values.{Script, codedBytes, scriptBytes}
 use Rattle.deployment.specs.File.{fieldBytes, script-tag}
 use Rattle.deployment.specs.FieldValues.{filled}
-use Rattle.deployment.proofs.Values.{length-script}
+use Rattle.deployment.proofs.Scripts.{length-script}
 use Rattle.deployment.proofs.Storing.{sets-sets}
 use Rattle.planner.specs.Sending.{scriptHead, records, Sent}
 use Rattle.planner.specs.Plans.{Made, scriptField, planOf, Placed}

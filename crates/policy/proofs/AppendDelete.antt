@@ -4,7 +4,7 @@
 use Prim.Native.Nat.{ℕ, _≤_, zero-le, suc-le-suc}
 use native.Mathlib.Omega.{arith}
 use mathlib.Core.Path.{_≡_, refl, sym, _∙_, ap, subst}
-use mathlib.Core.Bool.{Bool, true, not}
+use mathlib.Core.Bool.{true, not}
 use mathlib.Core.Logic.{inl, inr, ⊎-elim}
 use mathlib.Core.List.{List, [], _∷_, _++_, map, reverse, reverseAux-eq, map-append, append-nil}
 use mathlib.Core.List.{List·Memᴰ, List·Memᴰ·head, Memᴰ·cast, Memᴰ·append-left, Memᴰ·append-right, List·Memᴰ·append-cases, Memᴰ·of-map}
@@ -15,7 +15,7 @@ use lib.Dec.{eqb}
 use lib.ListN.{length, drop, length-append, length-map, length-reverse}
 use lib.Seq.{append-snoc}
 use Rattle.policy.specs.Lists.{pick, mem, common, missing}
-use Rattle.policy.specs.Command.{commandType, ofType}
+use Rattle.policy.specs.Command.{coded, codesOf, allows, ofType}
 use Rattle.policy.specs.AppendDelete.{keptRun, planOne}
 use Rattle.policy.specs.Properties.{In, Distinct, SupportedBy}
 use Rattle.policy.specs.Claims.{Policy, KeptRunIsLongest, PlanOneReaches, PlanOneCount, PlanOneSparesKept}
@@ -186,12 +186,12 @@ plan-one-count initial target d =
 
 -- The script is of type 1.
 plan-one-type : (initial target : List ℕ) → ofType 1 (planOne initial target) ≡ true
-unfolding ofType planOne commandType
+unfolding ofType planOne allows coded codesOf mem
 plan-one-type initial target =
-    let test : Command → Bool = λ c. eqb (commandType c) 1 in
     let out : List ℕ = reverse (missing initial (keptRun initial target)) in
     let new : List ℕ = drop (length (keptRun initial target)) target in
-    all-append test (map DelRule out) (map App new) (all-map test DelRule out (λ r. refl)) (all-map test App new (λ r. refl))
+    all-append (allows 1) (map DelRule out) (map App new) (all-map (allows 1) DelRule out (λ r. refl))
+    (all-map (allows 1) App new (λ r. refl))
 
 pub plan-one-reaches : PlanOneReaches
 plan-one-reaches size initial target first last = (

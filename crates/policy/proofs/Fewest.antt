@@ -6,8 +6,8 @@ use mathlib.Core.Path.{_≡_, refl, _∙_, ap}
 use mathlib.Core.Bool.{true}
 use mathlib.Core.List.{List, [], _∷_, _++_, append-assoc, Sublistᴰ, Sublistᴰ·trans}
 use lib.ListN.{length, drop, length-append}
-use Rattle.policy.specs.Lists.{all}
-use Rattle.policy.specs.Command.{commandType, ofType}
+use Rattle.policy.specs.Lists.{all, mem}
+use Rattle.policy.specs.Command.{coded, codesOf, allows, ofType}
 use Rattle.policy.specs.AppendDelete.{keptRun}
 use Rattle.policy.specs.Properties.{Leads}
 use Rattle.policy.specs.Claims.{PlanOneFewest}
@@ -41,7 +41,7 @@ kept-run-append u v target =
 -- a script of type 1 that leads from any list to the target, by its commands
 fewest : (size : ℕ) (l target : List ℕ) (script : List Command) → ofType 1 script ≡ true → Leads size l script target
     → length l + length target ≤ length script + 2 * length (keptRun l target)
-unfolding ofType all commandType
+unfolding ofType all allows coded codesOf mem
 fewest size l target [] e way =
     rw (← way) (omega (arith, ap length (kept-run-self l)))
 fewest size l target (App r ∷ script) e (m, (inside, new, is), rest) =

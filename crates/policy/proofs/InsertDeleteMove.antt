@@ -6,10 +6,9 @@ use mathlib.Core.Path.{_≡_, refl, ap}
 use mathlib.Core.Bool.{true}
 use mathlib.Core.List.{List, [], reverse}
 use mathlib.Core.Option.{Option}
-use lib.Dec.{eqb}
 use lib.ListN.{length, length-append}
 use Rattle.policy.specs.Lists.{mem, common, missing}
-use Rattle.policy.specs.Command.{commandType, ofType}
+use Rattle.policy.specs.Command.{coded, codesOf, allows, ofType}
 use Rattle.policy.specs.InsertDeleteMove.{keptTwo, firstStage, secondStage, planTwo, movesInPlace}
 use Rattle.policy.specs.Claims.{Accepted, PlanTwoReaches, PlanTwoCount, PlanTwoSparesKept, PlanTwoMoves}
 use Rattle.policy.specs.declared.Command.{Command}
@@ -42,8 +41,8 @@ pub plan-two-steps : (size : ℕ) (initial target : List ℕ) (keep : Option (Li
     → Steps (Sound initial target) (Forward initial target) size initial (planTwo initial target keep) target
 plan-two-steps size initial target keep a = plan-two-leg size initial target keep a .steps
 
-fit-type : (c : Command) → Fit c → eqb (commandType c) 2 ≡ true
-unfolding commandType
+fit-type : (c : Command) → Fit c → allows 2 c ≡ true
+unfolding allows coded codesOf mem
 fit-type (App r) f = absurd f
 fit-type (DelRule r) f = absurd f
 fit-type (Ins i r) f = refl
@@ -55,7 +54,7 @@ unfolding ofType
 plan-two-reaches size initial target keep a =
     let leg = plan-two-leg size initial target keep a in
     let script = planTwo initial target keep in (
-      in-all (λ c. eqb (commandType c) 2) script (λ c h. fit-type c (leg .fit c h)),
+      in-all (allows 2) script (λ c h. fit-type c (leg .fit c h)),
       steps-leads (Sound initial target) (Forward initial target) size initial target script (leg .steps),
     )
 

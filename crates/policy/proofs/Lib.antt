@@ -1,6 +1,7 @@
 pub mod Tests
 pub mod Numbers
 pub mod Lists
+pub mod Types
 pub mod Order
 pub mod Counting
 pub mod Standing

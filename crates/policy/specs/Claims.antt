@@ -15,10 +15,10 @@ use Rattle.policy.specs.Replay.{ended, replay, lists}
 use Rattle.policy.specs.AppendDelete.{keptRun, planOne}
 use Rattle.policy.specs.InsertDeleteMove.{keptTwo, planTwo, movesInPlace}
 use Rattle.policy.specs.Judge.{verdict, verdictNumbers}
-use Rattle.policy.specs.Properties.{Precedes, Untouched}
+use Rattle.policy.specs.Properties.{Precedes, Untouched, Allows, ScriptType}
 use Rattle.policy.specs.Properties.{In, Distinct, Supported, Ordered, Full, Fails, Leads, After, StandsAt}
 use Rattle.policy.specs.declared.Command.{Command}
-use Rattle.policy.specs.declared.Command.the-variants.{Mov}
+use Rattle.policy.specs.declared.Command.the-variants.{App, DelRule, Ins, DelPlace, Mov}
 use Rattle.policy.specs.declared.Decision.{Decision}
 use Rattle.policy.specs.declared.Fault.{Fault}
 use Rattle.policy.specs.declared.Verdict.{Verdict}
@@ -207,6 +207,19 @@ abbrev pub NotFullKeepsTheDefault : Type 0
 NotFullKeepsTheDefault =
     (size : ℕ) (initial target : List ℕ) (script : List Command) → Distinct initial → Distinct target
     → verdictNumbers (verdict size initial target script) ≡ 31 ∷ [] → KeepsTheDefault size initial target script
+
+-- "type byte 1 or 2"; "Type 1: .. `app r`, .. `del r`. Type 2: .. `ins i r`, .. `del i`, .. `mov i j`": the script types, and which of them
+-- allows which command
+pub record TypeAllows (type : ℕ) : Type 0 where
+  pub types : ScriptType type ↔ ((type ≡ 1) ⊎ (type ≡ 2))
+  pub app : (r : ℕ) → Allows type (App r) ↔ (type ≡ 1)
+  pub del-rule : (r : ℕ) → Allows type (DelRule r) ↔ (type ≡ 1)
+  pub ins : (i r : ℕ) → Allows type (Ins i r) ↔ (type ≡ 2)
+  pub del-place : (i : ℕ) → Allows type (DelPlace i) ↔ (type ≡ 2)
+  pub mov : (i j : ℕ) → Allows type (Mov i j) ↔ (type ≡ 2)
+
+abbrev pub ScriptTypes : Type 0
+ScriptTypes = (type : ℕ) → TypeAllows type
 
 -- Append and delete. What is kept is a front part of the target, occurs in order in the initial policy, and is the longest that does.
 abbrev pub KeptRunIsLongest : Type 0

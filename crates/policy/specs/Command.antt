@@ -1,6 +1,6 @@
 -- 01, "Commands": what each command does to the running list, and when it fails. Assumes nothing.
 use Prim.Native.Nat.{ℕ, suc, _-_}
-use mathlib.Core.Bool.{Bool, true, false, not, _&&_}
+use mathlib.Core.Bool.{Bool, true, false, cond, not, _&&_}
 use mathlib.Core.List.{List, [], _∷_, _++_}
 use lib.ListN.{length, take, drop, getD}
 use lib.Dec.{eqb, leb, ltb}
@@ -72,14 +72,22 @@ coded (Ins i r) = record { code = 3; one = i; two = r }
 coded (DelPlace i) = record { code = 4; one = i; two = 0 }
 coded (Mov i j) = record { code = 5; one = i; two = j }
 
--- "Type 1: code 1 .., code 2 ... Type 2: code 3 .., code 4 .., code 5 ..": the type of script that a command stands in
-unfoldable pub commandType : Command → ℕ
-commandType (App r) = 1
-commandType (DelRule r) = 1
-commandType (Ins i r) = 2
-commandType (DelPlace i) = 2
-commandType (Mov i j) = 2
+-- "Type 1: code 1 `app r`, code 2 `del r`. Type 2: code 3 `ins i r`, code 4 `del i`, code 5 `mov i j`": the codes that a script type allows,
+-- a row for each type. All that says which command stands in which script goes by this table.
+unfoldable pub codesOf : ℕ → List ℕ
+codesOf type =
+    cond (eqb type 1) (1 ∷ 2 ∷ [])
+    (cond (eqb type 2) (3 ∷ 4 ∷ 5 ∷ [])
+    [])
+
+-- whether there are scripts of a type: it allows some code
+unfoldable pub isType : ℕ → Bool
+isType type = leb 1 (length (codesOf type))
+
+-- whether a script of the type may hold the command
+unfoldable pub allows : ℕ → Command → Bool
+allows type c = mem ((coded c) .code) (codesOf type)
 
 -- a script of one type
 unfoldable pub ofType : ℕ → List Command → Bool
-ofType type script = all (λ c. eqb (commandType c) type) script
+ofType type script = all (allows type) script

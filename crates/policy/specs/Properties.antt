@@ -5,6 +5,7 @@ use mathlib.Core.Path.{_≡_}
 use mathlib.Core.Logic.{_⊎_}
 use mathlib.Core.List.{List, [], _∷_, _++_, List·Memᴰ}
 use lib.ListN.{length, take}
+use Rattle.policy.specs.Command.{coded, codesOf}
 use Rattle.policy.specs.declared.Command.{Command}
 use Rattle.policy.specs.declared.Command.the-variants.{App, DelRule, Ins, DelPlace, Mov}
 
@@ -42,6 +43,14 @@ Ordered initial target running = (r : ℕ) → In r running → Supported initia
 -- "full if it contains all of the initial policy or all of the target"
 abbrev pub Full : List ℕ → List ℕ → List ℕ → Type 0
 Full initial target running = Within initial running ⊎ Within target running
+
+-- a script of the type may hold the command: the command's code is one that the type allows
+abbrev pub Allows : ℕ → Command → Type 0
+Allows type c = List·Memᴰ ((coded c) .code) (codesOf type)
+
+-- there are scripts of the type: it allows some code
+abbrev pub ScriptType : ℕ → Type 0
+ScriptType type = (code : ℕ) × List·Memᴰ code (codesOf type)
 
 -- 23: "rule number outside the catalogue"
 abbrev pub Outside : ℕ → Command → Type 0

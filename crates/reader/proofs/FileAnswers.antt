@@ -15,7 +15,8 @@ use Rattle.deployment.specs.Catalogue.{recordCount, recordsOf, catalogueOf}
 use Rattle.deployment.specs.Contents.{Contents}
 use Rattle.deployment.specs.File.{Reading, accepted, readFile, readToJudge, listed, fileOf, rule-tag, fieldBytes}
 use Rattle.deployment.specs.Properties.{AreBytes, IfThere, Scripted, Valid, fieldsBytes}
-use Rattle.deployment.proofs.Values.{length-numbers, policy-numbers, keep-numbers, length-script, script-read}
+use Rattle.deployment.proofs.Values.{length-numbers, policy-numbers, keep-numbers}
+use Rattle.deployment.proofs.Scripts.{length-script, script-read}
 use Rattle.deployment.proofs.ReadBack.{rules-length, fieldsOf, file-fields, read-back}
 use Rattle.deployment.proofs.Reader.{written-again}
 use Rattle.reader.specs.Answers.{valueAt, spanFrom, spanIf, keepBytes, commandBytes, layoutOf, ruleSpan, shown, fileRead}

@@ -5,13 +5,13 @@ use native.Mathlib.Nat.{mul-comm}
 use native.Mathlib.Numerals.{add-one}
 use native.Mathlib.Omega.{arith}
 use mathlib.Core.Path.{_≡_, refl, sym, _∙_, ap}
-use mathlib.Core.Bool.{Bool, true, false, _||_}
+use mathlib.Core.Bool.{Bool, true, false}
 use mathlib.Core.List.{List, [], _∷_}
 use mathlib.Core.Option.{Option, none, some}
-use lib.Dec.{eqb}
 use lib.ListN.{length, drop, getD, drop-of-length-le}
 use lib.Seq.{drop-cons, drop-drop}
 use borrow.Author.Tests.{lt-ltb}
+use Rattle.policy.specs.Command.{isType}
 use Rattle.policy.specs.declared.Command.{Command}
 use Rattle.policy.proofs.Tests.{never}
 use Rattle.deployment.specs.Bytes.{number, part}
@@ -90,12 +90,12 @@ module _ (value : List ℕ) (fits : scriptFits (length value) ≡ true) where
   unfolding checking scriptValue scriptRead
   no-script e = rw (fits, e, scriptRead)
 
-  pub wrong-type : (eqb (number (part 0 1 value)) 1 || eqb (number (part 0 1 value)) 2) ≡ false
+  pub wrong-type : isType (number (part 0 1 value)) ≡ false
       → checking (scriptValue (some value)) ≡ Bad Coding
   unfolding scriptOf
   wrong-type f = no-script (rw f)
 
-  module _ (typed : (eqb (number (part 0 1 value)) 1 || eqb (number (part 0 1 value)) 2) ≡ true) where
+  module _ (typed : isType (number (part 0 1 value)) ≡ true) where
     pub wrong-command : readFrom 0 value ≡ false → checking (scriptValue (some value)) ≡ Bad Coding
     unfolding scriptOf there
     wrong-command f =

@@ -19,9 +19,9 @@ pub use deployment::RULE_BYTES;
 use deployment::Why;
 use deployment::command_at;
 use deployment::commands;
+use deployment::is_type;
 use deployment::listed;
 use deployment::number_at;
-use policy::Command;
 use running::Naming;
 use running::Running;
 
@@ -139,7 +139,7 @@ pub fn script_checked(value: &[u8]) -> Checking
         return Checking::Bad(Why::Length);
     }
     let kind = value[0];
-    if kind != Command::APPEND_DELETE && kind != Command::INSERT_DELETE_MOVE {
+    if !is_type(kind) {
         return Checking::Bad(Why::Coding);
     }
     if !all_commands(value) {

@@ -14,7 +14,8 @@ use Rattle.policy.specs.declared.Fault.{Fault}
 use Rattle.deployment.specs.Values.{commandFrom, codedOf, everyCommand, commandChunks, scriptOf}
 use Rattle.deployment.specs.Commands.{commandCount, commandAt, decoded}
 use Rattle.deployment.specs.declared.Decoded.the-variants.{Is, Wrong}
-use Rattle.deployment.proofs.Values.{byOption, none-some, script-of}
+use Rattle.deployment.proofs.Values.{byOption, none-some}
+use Rattle.deployment.proofs.Scripts.{script-of}
 use Rattle.reader.proofs.Scripts.{decoded-is, decoded-wrong, chunk-count, chunk-command}
 use Rattle.replay.specs.Answers.{commandsOf, Readable}
 

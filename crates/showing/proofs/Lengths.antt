@@ -4,7 +4,6 @@ use Prim.Native.Nat.{ℕ, suc, _+_, _*_, _^_, _/_, _%_, _≤_, _<_}
 use native.Mathlib.Nat.{mod-lt}
 use native.Mathlib.Omega.{arith}
 use mathlib.Core.Path.{refl}
-use mathlib.Core.Logic.{inl, inr}
 use mathlib.Core.Bool.{_&&_}
 use mathlib.Core.List.{List, [], _∷_, List·Memᴰ, List·Memᴰ·head, List·Memᴰ·tail}
 use mathlib.Core.Option.{Option, none, some}
@@ -17,6 +16,7 @@ use Rattle.policy.proofs.Tests.{byTest}
 use Rattle.deployment.specs.Bytes.{bytesOf}
 use Rattle.deployment.specs.Values.{Script}
 use Rattle.deployment.specs.Properties.{Sized, Recordable, Scripted, IfThere}
+use Rattle.deployment.proofs.Scripts.{type-small}
 use Rattle.listing.specs.Text.{text, decimal, spaced, spacedAll, named}
 use Rattle.listing.proofs.Digits.{length-decimal}
 use Rattle.listing.proofs.Lengths.{length-spaced, two-bytes-short, command-short, lines-short}
@@ -151,10 +151,7 @@ script-short (some script) right =
     simp length-append
     (omega (
       arith,
-      two-bytes-short (script .type) (type-small script right),
+      two-bytes-short (script .type) (omega (arith, type-small (script .type) (right .type))),
       two-bytes-short (length (script .commands)) (omega (arith, right .few)),
       lines-short 1 (script .commands) (omega (arith, right .few)) (λ c t. command-short c (right .one c t) (right .two c t)),
     ))
-  where
-    type-small : (script : Script) → Scripted script → script .type < 65536
-    type-small script right = elim (right .type) [ inl e ↦ omega arith | inr e ↦ omega arith ]

@@ -5,11 +5,12 @@ use mathlib.Core.Path.{_≡_, sym, _∙_}
 use mathlib.Core.Logic.{inl, inr}
 use mathlib.Core.List.{List, [], _∷_, _++_}
 use lib.ListN.{length, getD}
+use Rattle.policy.proofs.Types.{script-types}
 use Rattle.deployment.specs.Bytes.{number, numberFrom, part}
 use Rattle.deployment.specs.Values.{scriptOf}
 use Rattle.deployment.specs.Commands.{commandCount}
 use Rattle.deployment.proofs.Records.{first-byte}
-use Rattle.deployment.proofs.Values.{script-of}
+use Rattle.deployment.proofs.Scripts.{script-of}
 use Rattle.replay.specs.Answers.{commandsOf, Readable}
 use Rattle.replay.proofs.Scripts.{script-count}
 use Rattle.listing.specs.Text.{text, named, linesText}
@@ -20,7 +21,7 @@ unfolding number numberFrom part
 script-starts [] (script, read) =
     let (known, typed, every) = script-of [] script read in
     let none : script .type ≡ 0 = typed in
-    absurd (elim known [ inl e ↦ omega arith | inr e ↦ omega arith ])
+    absurd (elim (script-types (script .type) .types .0 known) [ inl e ↦ omega arith | inr e ↦ omega arith ])
 script-starts (b ∷ value) readable = omega arith
 
 pub script-shown : (value : List ℕ) → Readable value

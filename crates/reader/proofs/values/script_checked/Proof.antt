@@ -3,12 +3,10 @@
 use Prim.Native.Nat.{_≤_}
 use native.Mathlib.Omega.{arith}
 use mathlib.Core.Path.{_≡_, sym}
-use mathlib.Core.Bool.{true, _||_}
-use mathlib.Core.Logic.{⊎-elim}
-use lib.Dec.{eqb}
-use lib.ListN.{length, getD}
-use borrow.Author.Tests.{eq-eqb, ne-eqb, not-true, not-false}
-use Rattle.policy.proofs.Tests.{fails, passes, or-left, or-right}
+use mathlib.Core.Bool.{true}
+use lib.ListN.{length}
+use Rattle.policy.specs.Command.{isType}
+use Rattle.policy.proofs.Tests.{fails, passes}
 use Rattle.deployment.specs.Bytes.{number, part}
 use Rattle.deployment.specs.Values.{scriptFits}
 use Rattle.deployment.specs.FieldValues.{scriptValue}
@@ -32,17 +30,6 @@ typed-at c =
     let right = says-script (length (c .before .before .before .before .args .value .now)) .0 (long c) in
     omega (arith, right .1)
 
--- after the second the type is 1 or 2
-typed : (c : tie.Joined2)
-    → let value = c .before .before .before .before .before .args .value .now in
-    (eqb (number (part 0 1 value)) 1 || eqb (number (part 0 1 value)) 2) ≡ true
-typed c =
-    let value = c .before .before .before .before .before .args .value .now in
-    let kind = getD value 0 0 in
-    rw (first-byte value (typed-at (c .before)))
-    (⊎-elim (λ w. or-right (eqb kind 1) (not-false (eqb kind 2) (w .1 .left))) (λ w. or-left (eqb kind 2) (eq-eqb kind 1 (w .left)))
-    (c .if2 .came))
-
 returns : tie.Need-returns
 unfolding checking scriptValue
 returns c = rw (fails (c .before .script-fits .ensures) (c .if1 .taken))
@@ -50,29 +37,37 @@ returns c = rw (fails (c .before .script-fits .ensures) (c .if1 .taken))
 shared-slice-read-kind : tie.Need-shared-slice-read-kind
 shared-slice-read-kind c = typed-at c
 
+is-type-requires : tie.Need-is-type-requires
+is-type-requires c κs = search needs
+
+-- after the second test there are scripts of the type
+typed : (c : tie.Else2) → isType (number (part 0 1 (c .before .before .before .before .before .before .args .value .now))) ≡ true
+typed c =
+    let read = c .before .before in
+    rw (first-byte (read .before .before .before .before .args .value .now) (typed-at read))
+    (passes (c .before .is-type .ensures) (c .if2 .left))
+
 returns-2 : tie.Need-returns-2
 returns-2 c =
-    let value = c .before .before .before .before .before .before .args .value .now in
-    sym (wrong-type value (long (c .before .before)) (rw (
-      first-byte value (typed-at (c .before .before)),
-      ne-eqb (getD value 0 0) 1 (c .before .if2 .taken),
-      not-true (eqb (getD value 0 0) 2) (c .if3 .taken),
-    )))
+    let read = c .before .before in
+    let value = read .before .before .before .before .args .value .now in
+    sym (wrong-type value (long read)
+    (rw (first-byte value (typed-at read)) (fails (c .before .is-type .ensures) (c .if2 .taken))))
 
 all-commands-requires : tie.Need-all-commands-requires
 all-commands-requires c κs = search needs
 
 returns-3 : tie.Need-returns-3
 returns-3 c =
-    let value = c .before .before .before .before .before .before .before .args .value .now in
-    sym (wrong-command value (long (c .before .before .before)) (typed (c .before .before))
-    (fails (c .before .all-commands .ensures) (c .if4 .taken)))
+    let read = c .before .before .before .before in
+    sym (wrong-command (read .before .before .before .before .args .value .now) (long read) (typed (c .before .before))
+    (fails (c .before .all-commands .ensures) (c .if3 .taken)))
 
 returns-4 : tie.Need-returns-4
 returns-4 c =
-    let value = c .before .before .before .before .before .before .before .args .value .now in
-    sym (right-script value (long (c .before .before .before)) (typed (c .before .before))
-    (passes (c .before .all-commands .ensures) (c .if4 .left)))
+    let read = c .before .before .before .before in
+    sym (right-script (read .before .before .before .before .args .value .now) (long read) (typed (c .before .before))
+    (passes (c .before .all-commands .ensures) (c .if3 .left)))
 
 pub script-checked-spec : {M : Type 1} → statement M
 script-checked-spec =
@@ -81,6 +76,7 @@ script-checked-spec =
     script-fits-requires
     returns
     shared-slice-read-kind
+    is-type-requires
     returns-2
     all-commands-requires
     returns-3
