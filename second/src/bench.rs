@@ -4,11 +4,13 @@
 mod made;
 
 use crate::commands::commands_of;
-use crate::file::{self, numbers};
+use crate::file;
+use crate::format::numbers;
 use crate::judge::judge_values;
 use crate::library;
 use crate::plan::plan_values;
-use crate::policy::{decide_flows_values, Flow, DECISION_BYTES};
+use crate::policy::{decide_flows_values, DECISION_BYTES};
+use crate::rule::Flow;
 use made::{Made, Policies};
 use std::hint::black_box;
 use std::time::{Duration, Instant};

@@ -1,6 +1,7 @@
 //! Brute force over small lists: all pairs of policies for the planners, all
 //! short scripts for the judge, each with every pattern of match and action.
 
+mod held;
 mod literal;
 mod plans;
 mod scripts;
@@ -8,17 +9,6 @@ mod scripts;
 /// The script enumeration uses this many rules and commands.
 const SCRIPT_RULES: u16 = 3;
 const SCRIPT_COMMANDS: usize = 3;
-
-/// Stops with a description when something that must hold doesn't.
-type Held = Result<(), String>;
-
-fn must(holds: bool, say: impl FnOnce() -> String) -> Held {
-    if holds {
-        Ok(())
-    } else {
-        Err(say())
-    }
-}
 
 fn report(name: &str, outcome: Result<String, String>) -> bool {
     match &outcome {

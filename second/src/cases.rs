@@ -7,117 +7,21 @@
 //! parts, themselves a row: the file; or the rules, both policies, the keep list
 //! and the script; and last flows, as the entries take many at once.
 
+mod case;
 mod expected;
 mod faults;
+mod given;
 mod groups;
 mod made;
 mod scripts;
 
-use crate::file::{add_field, Values, RULE_BYTES, TAG_INITIAL, TAG_KEEP, TAG_RULE, TAG_SCRIPT, TAG_TARGET};
-use crate::policy::Flow;
+use case::{add_part, Case};
 use std::fs;
 use std::io;
 use std::path::Path;
 
 /// The program reads no more of a row.
 const MOST_IN_ROW: usize = 65536;
-
-/// Lent for a keep list and for a script that are said to be absent.
-const ABSENT_KEEP: [u8; 1] = [7];
-const ABSENT_SCRIPT: [u8; 1] = [9];
-
-/// Field values as they are given, sound or not.
-#[derive(Clone, Debug, Default)]
-struct Given {
-    rules: Vec<u8>,
-    initial: Vec<u8>,
-    target: Vec<u8>,
-    keep: Option<Vec<u8>>,
-    script: Option<Vec<u8>>,
-}
-
-impl Given {
-    fn values(&self) -> Values<'_> {
-        let (keep, script) = (self.keep.as_deref(), self.script.as_deref());
-        Values { rules: &self.rules, initial: &self.initial, target: &self.target, keep, script }
-    }
-
-    /// The script's bytes, also where it is said to be absent.
-    fn lent_script(&self) -> &[u8] {
-        self.script.as_deref().unwrap_or(&ABSENT_SCRIPT)
-    }
-
-    fn lent_keep(&self) -> &[u8] {
-        self.keep.as_deref().unwrap_or(&ABSENT_KEEP)
-    }
-
-    /// A file of these values; bytes that are too many for a rule stand in one more.
-    fn file(&self) -> Vec<u8> {
-        let mut file = Vec::new();
-        for rule in self.rules.chunks(RULE_BYTES) {
-            add_field(&mut file, TAG_RULE, rule);
-        }
-        add_field(&mut file, TAG_INITIAL, &self.initial);
-        add_field(&mut file, TAG_TARGET, &self.target);
-        for (tag, value) in [(TAG_KEEP, &self.keep), (TAG_SCRIPT, &self.script)] {
-            if let Some(value) = value {
-                add_field(&mut file, tag, value);
-            }
-        }
-        file
-    }
-}
-
-enum Over {
-    File(Vec<u8>),
-    Lists(Given),
-}
-
-struct Case {
-    over: Over,
-    room: usize,
-    flow: Flow,
-    flows: Vec<u8>,
-}
-
-/// A flow and its way back; and the same with the ports left where they were.
-fn flows_about(flow: &Flow) -> Vec<u8> {
-    let Flow { source, source_port, destination, destination_port, .. } = *flow;
-    let turned = Flow { source: destination, destination: source, ..*flow };
-    let back = Flow { source_port: destination_port, destination_port: source_port, ..turned };
-    [*flow, back, turned].iter().flat_map(Flow::bytes).collect()
-}
-
-fn add_part(row: &mut Vec<u8>, part: &[u8]) {
-    row.extend_from_slice(&u16::try_from(part.len()).expect("a part of a row").to_be_bytes());
-    row.extend_from_slice(part);
-}
-
-impl Case {
-    /// With the given flow for the entries that take one, and three like it for those that take many.
-    fn new(over: Over, room: usize, flow: Flow) -> Case {
-        let flows = flows_about(&flow);
-        Case { over, room, flow, flows }
-    }
-
-    fn bytes(&self) -> Vec<u8> {
-        let (flags, mut parts) = match &self.over {
-            Over::File(file) => ([0, 0, 0], vec![file.as_slice()]),
-            Over::Lists(given) => (
-                [1, u8::from(given.keep.is_some()), u8::from(given.script.is_some())],
-                vec![&given.rules[..], &given.initial, &given.target, given.lent_keep(), given.lent_script()],
-            ),
-        };
-        let mut bytes = flags.to_vec();
-        bytes.extend(u16::try_from(self.room).expect("a room of two bytes").to_be_bytes());
-        bytes.extend(self.flow.bytes());
-        parts.push(&self.flows);
-        for part in parts {
-            add_part(&mut bytes, part);
-        }
-        bytes
-    }
-}
 
 /// Rows of a group with their texts, each row as long as the program reads it.
 fn rows(cases: &[Case]) -> Vec<(Vec<u8>, String)> {

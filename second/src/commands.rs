@@ -1,6 +1,6 @@
 //! The commands of both editing languages and their five bytes in a script.
 
-use crate::file::{COMMAND_BYTES, HEAD_BYTES, TAG_SCRIPT};
+use crate::format::{add_field, COMMAND_BYTES, HEAD_BYTES, TAG_SCRIPT};
 
 /// `i` and `j` are places counted from 1, `r` is a rule number.
 #[derive(Clone, Copy, Debug, PartialEq, Eq)]
@@ -61,7 +61,7 @@ pub fn script_value(kind: u8, commands: &[Command]) -> Vec<u8> {
 pub fn script_field(kind: u8, commands: &[Command]) -> Vec<u8> {
     let value = script_value(kind, commands);
     let mut field = Vec::with_capacity(HEAD_BYTES + value.len());
-    crate::file::add_field(&mut field, TAG_SCRIPT, &value);
+    add_field(&mut field, TAG_SCRIPT, &value);
     field
 }
 

@@ -4,28 +4,12 @@
 //! order that "Turned away" gives for entries that take lists.
 
 use crate::commands::Command;
-use crate::policy;
+use crate::format::{
+    add_field, numbers, Refusal, COMMAND_BYTES, HEAD_BYTES, MOST_COMMANDS, MOST_IN_POLICY, MOST_RULES, RULE_BYTES,
+    TAG_INITIAL, TAG_KEEP, TAG_RULE, TAG_SCRIPT, TAG_TARGET,
+};
+use crate::rule::is_rule;
 use std::collections::HashSet;
-
-pub const MOST_RULES: usize = 1024;
-pub const MOST_IN_POLICY: usize = 512;
-pub const MOST_COMMANDS: usize = 2048;
-pub const RULE_BYTES: usize = 27;
-pub const COMMAND_BYTES: usize = 5;
-pub const HEAD_BYTES: usize = 3;
-
-pub const TAG_RULE: u8 = 1;
-pub const TAG_INITIAL: u8 = 2;
-pub const TAG_TARGET: u8 = 3;
-pub const TAG_KEEP: u8 = 4;
-pub const TAG_SCRIPT: u8 = 5;
-
-/// A file or a call turned away: the number of the table and its position.
-#[derive(Clone, Copy, Debug, PartialEq, Eq)]
-pub struct Refusal {
-    pub number: u8,
-    pub position: usize,
-}
 
 /// An accepted file: each part is the value of a field, lent from the file.
 #[derive(Clone, Debug, Default, PartialEq, Eq)]
@@ -45,16 +29,6 @@ pub struct Values<'a> {
     pub target: &'a [u8],
     pub keep: Option<&'a [u8]>,
     pub script: Option<&'a [u8]>,
-}
-
-/// The rule numbers of a list's value.
-pub fn numbers(value: &[u8]) -> Vec<u16> {
-    value.chunks_exact(2).map(|pair| u16::from_be_bytes([pair[0], pair[1]])).collect()
-}
-
-/// The value of a list of rule numbers.
-pub fn list_value(list: &[u16]) -> Vec<u8> {
-    list.iter().flat_map(|number| number.to_be_bytes()).collect()
 }
 
 // ---- Tests of one value; each gives the refusal's number ----
@@ -79,7 +53,7 @@ fn test_length(tag: u8, length: usize) -> Tested {
 }
 
 fn test_rule<'a>(value: &'a [u8], earlier: &mut HashSet<&'a [u8]>) -> Tested {
-    refuse_if(!policy::is_rule(value), 5)?;
+    refuse_if(!is_rule(value), 5)?;
     refuse_if(!earlier.insert(value), 6)
 }
 
@@ -251,13 +225,6 @@ pub fn put(bytes: &[u8], place: &mut [u8]) -> Result<usize, Refusal> {
     Ok(bytes.len())
 }
 
-/// Adds one field to `out`.
-pub fn add_field(out: &mut Vec<u8>, tag: u8, value: &[u8]) {
-    out.push(tag);
-    out.extend_from_slice(&(value.len() as u16).to_be_bytes());
-    out.extend_from_slice(value);
-}
-
 /// The file of the given contents.
 pub fn file_bytes(contents: &Contents) -> Vec<u8> {
     let mut out = Vec::new();
@@ -284,7 +251,8 @@ pub fn write(values: &Values, place: &mut [u8]) -> Result<usize, Refusal> {
 #[cfg(test)]
 mod tests {
     use super::*;
-    use crate::inputs::plain_rule;
+    use crate::format::list_value;
+    use crate::rule::plain_rule;
 
     fn small_file(initial: &[u16], target: &[u16], keep: Option<&[u16]>) -> Vec<u8> {
         let rules: Vec<Vec<u8>> = (0..5).map(plain_rule).collect();

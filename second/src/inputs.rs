@@ -3,17 +3,17 @@
 
 mod damage;
 mod draft;
+mod limits;
 mod random;
 mod rules;
 mod scripts;
 mod values;
 
-use crate::policy::Flow;
+use crate::rule::{flow_of, Flow};
 use damage::Field;
 use draft::Draft;
 use random::Random;
 
-pub use rules::{encode, flow_of, plain_rule};
 pub use values::MadeValues;
 
 const FLOWS: u64 = 0x666c_6f77;
@@ -70,9 +70,9 @@ fn damaged_bytes(random: &mut Random) -> Vec<u8> {
 fn at_the_limits(random: &mut Random) -> Vec<Field> {
     let over = random.one_in(2);
     match random.below(4) {
-        0 | 1 => draft::full_catalogue(random, over),
-        2 => draft::full_policies(random, over),
-        _ => draft::full_script(random, over),
+        0 | 1 => limits::full_catalogue(random, over),
+        2 => limits::full_policies(random, over),
+        _ => limits::full_script(random, over),
     }
 }
 

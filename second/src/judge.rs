@@ -1,7 +1,8 @@
 //! The judge: replays a script and tests every list for order and fullness.
 
 use crate::commands::{commands_of, Command};
-use crate::file::{check, numbers, Refusal, Values};
+use crate::file::{check, Values};
+use crate::format::{numbers, Refusal};
 use crate::replay::{replay, Broken, RunningList};
 
 #[derive(Clone, Copy, Debug, PartialEq, Eq)]

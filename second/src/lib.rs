@@ -9,6 +9,7 @@ pub mod cases;
 pub mod commands;
 pub mod compare;
 pub mod file;
+pub mod format;
 pub mod inputs;
 pub mod judge;
 #[cfg(feature = "library")]
@@ -16,6 +17,7 @@ pub mod library;
 pub mod plan;
 pub mod policy;
 pub mod replay;
+pub mod rule;
 pub mod show;
 pub mod text;
 pub mod vectors;

@@ -2,7 +2,7 @@
 //! slices put together. The number is returned, its values stand in `answer`.
 
 use crate::file::Values;
-use crate::policy::Flow;
+use crate::rule::Flow;
 
 type Bytes = *const u8;
 type Place = *mut u8;

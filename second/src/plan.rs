@@ -1,7 +1,8 @@
 //! The two planners: scripts that lead from the initial policy to the target.
 
 use crate::commands::{script_field, Command};
-use crate::file::{check, numbers, put, Contents, Refusal, Values, MOST_RULES};
+use crate::file::{check, put, Contents, Values};
+use crate::format::{numbers, Refusal, MOST_RULES};
 
 /// A script with the number of rules it leaves untouched.
 #[derive(Clone, Debug, PartialEq, Eq)]

@@ -1,105 +1,17 @@
-//! Rules, flows, and the first-match decision.
+//! The first-match decision of flows by a policy.
 
-use crate::file::{self, Refusal};
+use crate::file;
+use crate::format::Refusal;
+use crate::rule::{matches, Flow, FLOW_BYTES};
 
-/// The five numbers of a flow.
-#[derive(Clone, Copy, Debug, PartialEq, Eq)]
-pub struct Flow {
-    pub protocol: u8,
-    pub source: u32,
-    pub source_port: u16,
-    pub destination: u32,
-    pub destination_port: u16,
-}
-
-/// The bytes of a flow, and of the answer for one, where many are asked about at once.
-pub const FLOW_BYTES: usize = 13;
+/// The bytes of the answer for a flow, where many are asked about at once.
 pub const DECISION_BYTES: usize = 3;
-
-impl Flow {
-    /// The five numbers one after another, big-endian.
-    pub fn bytes(&self) -> [u8; FLOW_BYTES] {
-        let mut bytes = [0; FLOW_BYTES];
-        bytes[0] = self.protocol;
-        bytes[1..5].copy_from_slice(&self.source.to_be_bytes());
-        bytes[5..7].copy_from_slice(&self.source_port.to_be_bytes());
-        bytes[7..11].copy_from_slice(&self.destination.to_be_bytes());
-        bytes[11..].copy_from_slice(&self.destination_port.to_be_bytes());
-        bytes
-    }
-
-    fn of_bytes(bytes: &[u8]) -> Flow {
-        let bytes: &[u8; FLOW_BYTES] = bytes.try_into().expect("the bytes of a flow");
-        let two = |at: usize| u16::from_be_bytes([bytes[at], bytes[at + 1]]);
-        let four = |at: usize| u32::from_be_bytes([bytes[at], bytes[at + 1], bytes[at + 2], bytes[at + 3]]);
-        Flow {
-            protocol: bytes[0],
-            source: four(1),
-            source_port: two(5),
-            destination: four(7),
-            destination_port: two(11),
-        }
-    }
-}
 
 /// The answer for a flow: permit or deny, and the deciding place (0: default).
 #[derive(Clone, Copy, Debug, PartialEq, Eq)]
 pub struct Decision {
     pub permit: bool,
     pub place: usize,
-}
-
-/// The inclusive range of one of the five numbers.
-#[derive(Clone, Copy, Debug, PartialEq, Eq)]
-pub struct Range {
-    pub low: u32,
-    pub high: u32,
-}
-
-impl Range {
-    fn holds(self, number: u32) -> bool {
-        self.low <= number && number <= self.high
-    }
-}
-
-type RuleBytes = [u8; file::RULE_BYTES];
-
-fn whole(rule: &[u8]) -> &RuleBytes {
-    rule.try_into().expect("the bytes of a rule")
-}
-
-fn one_byte(rule: &RuleBytes, start: usize) -> Range {
-    Range { low: u32::from(rule[start]), high: u32::from(rule[start + 1]) }
-}
-
-fn two_bytes(rule: &RuleBytes, start: usize) -> Range {
-    let number = |at: usize| u32::from(u16::from_be_bytes([rule[at], rule[at + 1]]));
-    Range { low: number(start), high: number(start + 2) }
-}
-
-fn four_bytes(rule: &RuleBytes, start: usize) -> Range {
-    let number = |at: usize| u32::from_be_bytes([rule[at], rule[at + 1], rule[at + 2], rule[at + 3]]);
-    Range { low: number(start), high: number(start + 4) }
-}
-
-/// The five ranges of a rule's 27 bytes, in the order of the file.
-pub fn ranges(rule: &[u8]) -> [Range; 5] {
-    let rule = whole(rule);
-    [one_byte(rule, 1), four_bytes(rule, 3), two_bytes(rule, 11), four_bytes(rule, 15), two_bytes(rule, 23)]
-}
-
-/// Whether 27 bytes are a rule: action 0 or 1, no low above its high.
-pub fn is_rule(value: &[u8]) -> bool {
-    value[0] <= 1 && ranges(value).iter().all(|range| range.low <= range.high)
-}
-
-pub fn matches(rule: &[u8], flow: &Flow) -> bool {
-    let rule = whole(rule);
-    one_byte(rule, 1).holds(u32::from(flow.protocol))
-        && four_bytes(rule, 3).holds(flow.source)
-        && two_bytes(rule, 11).holds(u32::from(flow.source_port))
-        && four_bytes(rule, 15).holds(flow.destination)
-        && two_bytes(rule, 23).holds(u32::from(flow.destination_port))
 }
 
 /// Decides a flow by a policy's value over the rules of accepted contents.
@@ -123,7 +35,7 @@ pub fn decide_values(rules: &[u8], policy: &[u8], flow: &Flow) -> Result<Decisio
 /// Decides flows of 13 bytes by a policy's value over the rules of accepted
 /// contents: for each, action and two-byte place in the first bytes of `place`.
 pub fn decide_flows(rules: &[&[u8]], policy: &[u8], flows: &[u8], place: &mut [u8]) -> Result<usize, Refusal> {
-    if flows.len() % FLOW_BYTES != 0 {
+    if !flows.len().is_multiple_of(FLOW_BYTES) {
         return Err(Refusal { number: 4, position: 0 });
     }
     let needed = DECISION_BYTES * (flows.len() / FLOW_BYTES);

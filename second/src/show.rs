@@ -1,7 +1,8 @@
 //! The text that `showlist` prints: what a deployment file contains.
 
 use crate::commands::commands_of;
-use crate::file::{numbers, read, Contents};
+use crate::file::{read, Contents};
+use crate::format::numbers;
 use crate::text::{command_line, refusal_line};
 use std::net::Ipv4Addr;
 

@@ -1,7 +1,8 @@
 //! The texts that `planlist` and `judgelist` print.
 
 use crate::commands::{commands_of, Command};
-use crate::file::{numbers, read, read_with_script, Refusal};
+use crate::file::{read, read_with_script};
+use crate::format::{numbers, Refusal};
 use crate::judge::{judge, Verdict};
 use crate::plan::{plan, Plan};
 use std::fmt::Write;
@@ -65,8 +66,9 @@ pub fn judge_text(file: &[u8]) -> String {
 mod tests {
     use super::*;
     use crate::commands::script_value;
-    use crate::file::{file_bytes, list_value, Contents};
-    use crate::inputs::plain_rule;
+    use crate::file::{file_bytes, Contents};
+    use crate::format::list_value;
+    use crate::rule::plain_rule;
 
     const FIRST_EXAMPLE: &str = "\
 type 1 initial 4 target 4 kept 1 commands 6

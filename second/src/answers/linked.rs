@@ -1,6 +1,7 @@
 //! The answers of the linked library, in the order of ours.
 
-use super::{Answer, Answers, Input, LENT_BYTE};
+use super::answer::{Answer, Answers, LENT_BYTE};
+use super::input::Input;
 use crate::library;
 
 /// No text is longer.

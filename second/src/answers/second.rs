@@ -1,13 +1,16 @@
 //! Our answers, each brought to a number with its values.
 
-use super::{Answer, Answers, Input, Rooms};
+use super::answer::{Answer, Answers};
+use super::input::{Input, Rooms};
 use crate::commands::commands_of;
-use crate::file::{self, Contents, Refusal, Values};
+use crate::file::{self, Contents, Values};
+use crate::format::{list_value, numbers, Refusal};
 use crate::inputs::RoomMaker;
 use crate::judge::judge;
 use crate::plan::plan_contents;
-use crate::policy::{self, Decision, Flow};
+use crate::policy::{self, Decision};
 use crate::replay::{self, RunningList};
+use crate::rule::Flow;
 use crate::show::show_text;
 use crate::text::{judge_text, plan_text};
 
@@ -65,17 +68,17 @@ fn planned(kind: u8, contents: Result<Contents, Refusal>, place: &mut [u8]) -> O
 
 fn replayed(scripted: Scripted, place: &mut [u8]) -> Outcome {
     outcome(scripted, |(contents, script)| {
-        let mut list = RunningList::new(&file::numbers(contents.initial), contents.rules.len());
+        let mut list = RunningList::new(&numbers(contents.initial), contents.rules.len());
         match replay::replay(&mut list, &commands_of(script), |_, _| ()) {
             Err(broken) => (u32::from(broken.number), vec![broken.step]),
-            Ok(()) => written(file::put(&file::list_value(list.rules()), place)),
+            Ok(()) => written(file::put(&list_value(list.rules()), place)),
         }
     })
 }
 
 fn judged(scripted: Scripted) -> Outcome {
     outcome(scripted, |(contents, script)| {
-        let (initial, target) = (file::numbers(contents.initial), file::numbers(contents.target));
+        let (initial, target) = (numbers(contents.initial), numbers(contents.target));
         let numbers = judge(contents.rules.len(), &initial, &target, &commands_of(script)).numbers();
         (numbers[0] as u32, numbers[1..].to_vec())
     })

@@ -1,10 +1,11 @@
 //! Inputs for timing: policies of a given size over a catalogue of twice as many rules.
 
 use crate::commands::{script_value, Command};
-use crate::file::{file_bytes, list_value, numbers, Contents, Values, RULE_BYTES};
+use crate::file::{file_bytes, Contents, Values};
+use crate::format::{list_value, numbers, RULE_BYTES};
 use crate::inputs;
 use crate::plan::append_and_delete;
-use crate::policy::Flow;
+use crate::rule::{plain_rule, Flow};
 
 const SEED: u64 = 1;
 const EDITS: usize = 10;
@@ -123,7 +124,7 @@ impl Made {
 
 /// A catalogue of so many rules that differ in their source address alone.
 pub fn plain_catalogue(rules: usize) -> Vec<u8> {
-    (0..rules as u16).flat_map(inputs::plain_rule).collect()
+    (0..rules as u16).flat_map(plain_rule).collect()
 }
 
 /// Flows of which about half match one of so many plain rules, each as often.

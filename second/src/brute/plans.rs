@@ -1,14 +1,15 @@
 //! The planners on all pairs of policies and all accepted keep lists.
 
+use super::held::{must, Held};
 use super::literal::{
     changes_once, in_order, lists_of, opens_no_hole, own_choice, patterns, policies, verdict, Pattern,
 };
-use super::{must, Held};
 use crate::commands::Command;
-use crate::file::{check, list_value, Values};
-use crate::inputs::plain_rule;
+use crate::file::{check, Values};
+use crate::format::list_value;
 use crate::judge::judge;
 use crate::plan::{append_and_delete, insert_delete_and_move, Plan};
+use crate::rule::plain_rule;
 use std::collections::HashMap;
 
 struct Bench {

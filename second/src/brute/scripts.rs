@@ -1,7 +1,7 @@
 //! The judge on all short scripts, also those with places and rules out of range.
 
+use super::held::{must, Held};
 use super::literal::{self, is_safe, lists_of, opens_no_hole, patterns, policies, Pattern};
-use super::{must, Held};
 use crate::commands::Command;
 use crate::judge::judge;
 use std::collections::BTreeMap;

@@ -1,9 +1,11 @@
 //! What the program must print for a case.
 
-use super::{Case, Given, Over};
+use super::case::{Case, Over};
+use super::given::Given;
 use crate::answers::LENT_BYTE;
 use crate::commands::commands_of;
-use crate::file::{self, Contents, Refusal, Values};
+use crate::file::{self, Contents, Values};
+use crate::format::{list_value, numbers, Refusal};
 use crate::judge::judge;
 use crate::plan::plan_contents;
 use crate::policy::{self, Decision};
@@ -55,7 +57,7 @@ fn decision(decision: Decision) -> String {
 
 fn verdict(scripted: Scripted) -> String {
     or_refused(scripted, |(contents, script)| {
-        let (initial, target) = (file::numbers(contents.initial), file::numbers(contents.target));
+        let (initial, target) = (numbers(contents.initial), numbers(contents.target));
         let verdict = judge(contents.rules.len(), &initial, &target, &commands_of(script));
         let numbers: Vec<String> = verdict.numbers().iter().map(usize::to_string).collect();
         format!("verdict {}", numbers.join(" "))
@@ -64,10 +66,10 @@ fn verdict(scripted: Scripted) -> String {
 
 fn replayed(scripted: Scripted, place: &mut [u8]) -> String {
     or_refused(scripted, |(contents, script)| {
-        let mut list = RunningList::new(&file::numbers(contents.initial), contents.rules.len());
+        let mut list = RunningList::new(&numbers(contents.initial), contents.rules.len());
         match replay::replay(&mut list, &commands_of(script), |_, _| ()) {
             Err(broken) => format!("broken {} at {}", broken.number, broken.step),
-            Ok(()) => or_refused(file::put(&file::list_value(list.rules()), place), |bytes| format!("ended {bytes}")),
+            Ok(()) => or_refused(file::put(&list_value(list.rules()), place), |bytes| format!("ended {bytes}")),
         }
     })
 }

@@ -1,9 +1,9 @@
 //! Values with one fault, and with each two of them: which is met first.
 
-use super::groups::{both_of_all, given, NO_PORTS};
-use super::{Case, Given, Over};
+use super::case::{both_of_all, Case, Over, NO_PORTS};
+use super::given::{given, Given};
 use crate::commands::Command::Mov;
-use crate::file::RULE_BYTES;
+use crate::format::RULE_BYTES;
 
 type Fault = fn(&mut Given);
 

@@ -1,59 +1,19 @@
 //! The groups of cases: document 01's examples, rooms, flows, limits; and those
 //! of the other modules.
 
-use super::{faults, made, scripts, Case, Given, Over};
-use crate::commands::Command::{self, *};
-use crate::commands::{commands_of, script_value};
-use crate::file::{list_value, numbers, MOST_COMMANDS, MOST_IN_POLICY, MOST_RULES, RULE_BYTES};
-use crate::inputs::{encode, flow_near, flow_of, plain_rule};
-use crate::plan::plan;
-use crate::policy::{Flow, Range, FLOW_BYTES};
+use super::case::{both, both_of_all, Case, Over, NO_PORTS};
+use super::given::{given, Given};
+use super::{faults, made, scripts};
+use crate::commands::Command::*;
+use crate::format::{list_value, MOST_COMMANDS, MOST_IN_POLICY, MOST_RULES, RULE_BYTES};
+use crate::inputs::flow_near;
+use crate::rule::{encode, flow_of, full_ranges, Range, FLOW_BYTES};
 
-/// A flow of a protocol without ports.
-pub const NO_PORTS: Flow = Flow { protocol: 47, source: 1, source_port: 0, destination: 2, destination_port: 0 };
-
-/// Room for any small plan, and for the longest.
-const SMALL_ROOM: usize = 64;
+/// Room for the longest plan.
 const GREAT_ROOM: usize = 6000;
 
 /// Room for the decisions of three flows, and a byte more.
 const FLOW_ROOM: usize = 10;
-
-/// Policies over so many plain rules.
-pub fn given(rules: u16, initial: &[u16], target: &[u16]) -> Given {
-    let rules = (0..rules).flat_map(plain_rule).collect();
-    Given { rules, initial: list_value(initial), target: list_value(target), keep: None, script: None }
-}
-
-impl Given {
-    pub fn keep(self, keep: &[u16]) -> Given {
-        Given { keep: Some(list_value(keep)), ..self }
-    }
-
-    pub fn script(self, kind: u8, commands: &[Command]) -> Given {
-        Given { script: Some(script_value(kind, commands)), ..self }
-    }
-
-    /// With the planner's script.
-    pub fn planned(self, kind: u8) -> Given {
-        let keep = self.keep.as_deref().map(numbers);
-        let plan = plan(kind, &numbers(&self.initial), &numbers(&self.target), keep.as_deref());
-        self.script(kind, &plan.commands)
-    }
-
-    pub fn commands(&self) -> Vec<Command> {
-        self.script.as_deref().map(commands_of).unwrap_or_default()
-    }
-}
-
-/// The same values in a file and as lists.
-pub fn both(given: Given, room: usize, flow: Flow) -> [Case; 2] {
-    [Over::File(given.file()), Over::Lists(given)].map(|over| Case::new(over, room, flow))
-}
-
-pub fn both_of_all(all: Vec<Given>) -> Vec<Case> {
-    all.into_iter().flat_map(|given| both(given, SMALL_ROOM, NO_PORTS)).collect()
-}
 
 fn first_example() -> Given {
     given(5, &[0, 1, 2, 3], &[1, 0, 4, 3])
@@ -61,10 +21,6 @@ fn first_example() -> Given {
 
 fn third_example() -> Given {
     given(3, &[0, 1, 2], &[2, 0, 1])
-}
-
-fn full_ranges() -> [Range; 5] {
-    [255, u32::MAX, 65535, u32::MAX, 65535].map(|high| Range { low: 0, high })
 }
 
 fn examples() -> Vec<Case> {

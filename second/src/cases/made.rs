@@ -1,10 +1,12 @@
 //! Cases from the maker of inputs, so many of each outcome.
 
-use super::{Case, Given, Over};
-use crate::file::{read, RULE_BYTES};
+use super::case::{Case, Over};
+use super::given::Given;
+use crate::file::read;
+use crate::format::RULE_BYTES;
 use crate::inputs;
 use crate::judge::judge_values;
-use crate::policy::{is_rule, Flow};
+use crate::rule::{is_rule, Flow};
 use crate::text::judge_text;
 use std::collections::{HashMap, HashSet};
 
@@ -44,7 +46,7 @@ fn any_flow<'a>(rules: impl Iterator<Item = &'a [u8]>, index: u64) -> Flow {
 
 /// A room like the made one, which may be too small, or ample room.
 fn any_room(made: usize, index: u64) -> usize {
-    if index % 3 == 0 {
+    if index.is_multiple_of(3) {
         made
     } else {
         AMPLE_ROOM

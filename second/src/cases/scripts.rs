@@ -1,10 +1,10 @@
 //! Scripts for every verdict: commands that fail at several steps, scripts that
 //! end elsewhere, and lists that aren't ordered or aren't full.
 
-use super::groups::{both_of_all, given};
-use super::{Case, Given};
+use super::case::{both_of_all, Case};
+use super::given::{given, Given};
 use crate::commands::Command::{self, *};
-use crate::file::numbers;
+use crate::format::numbers;
 use crate::replay::{replay, RunningList};
 
 const RULES: u16 = 7;

@@ -2,7 +2,7 @@
 //! knows nothing of fields.
 
 use super::random::Random;
-use crate::file::{HEAD_BYTES, RULE_BYTES, TAG_INITIAL, TAG_KEEP, TAG_RULE, TAG_SCRIPT, TAG_TARGET};
+use crate::format::{HEAD_BYTES, RULE_BYTES, TAG_INITIAL, TAG_KEEP, TAG_RULE, TAG_SCRIPT, TAG_TARGET};
 
 /// A field before it is laid out; its head may say another length.
 #[derive(Clone)]

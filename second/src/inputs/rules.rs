@@ -2,7 +2,7 @@
 //! the ends of ranges.
 
 use super::random::Random;
-use crate::policy::{ranges, Flow, Range};
+use crate::rule::{encode, flow_of, ranges, Flow, Range, GREATEST};
 use std::collections::HashSet;
 
 const PROTOCOLS: [u32; 9] = [0, 1, 6, 17, 47, 127, 128, 254, 255];
@@ -10,32 +10,14 @@ const PORTS: [u32; 12] = [0, 1, 22, 80, 255, 256, 1023, 1024, 32767, 32768, 6553
 const ADDRESSES: [u32; 10] =
     [0, 1, 0x0a00_0000, 0x0a00_00ff, 0x0aff_ffff, 0x7fff_ffff, 0x8000_0000, 0xc0a8_0101, 0xffff_fffe, u32::MAX];
 
-/// For each of a rule's five numbers: favoured values, greatest value, bytes.
-const NUMBERS: [(&[u32], u32, usize); 5] = [
-    (&PROTOCOLS, 255, 1),
-    (&ADDRESSES, u32::MAX, 4),
-    (&PORTS, 65535, 2),
-    (&ADDRESSES, u32::MAX, 4),
-    (&PORTS, 65535, 2),
+/// For each of a rule's five numbers: favoured values, greatest value.
+const NUMBERS: [(&[u32], u32); 5] = [
+    (&PROTOCOLS, GREATEST[0]),
+    (&ADDRESSES, GREATEST[1]),
+    (&PORTS, GREATEST[2]),
+    (&ADDRESSES, GREATEST[3]),
+    (&PORTS, GREATEST[4]),
 ];
-
-/// The 27 bytes of a rule.
-pub fn encode(permit: bool, ranges: &[Range; 5]) -> Vec<u8> {
-    let mut rule = vec![u8::from(permit)];
-    for (range, (_, _, width)) in ranges.iter().zip(NUMBERS) {
-        rule.extend_from_slice(&range.low.to_be_bytes()[4 - width..]);
-        rule.extend_from_slice(&range.high.to_be_bytes()[4 - width..]);
-    }
-    rule
-}
-
-/// A rule that differs for each number: it permits one source address.
-pub fn plain_rule(number: u16) -> Vec<u8> {
-    let mut ranges = NUMBERS.map(|(_, most, _)| Range { low: 0, high: most });
-    let source = u32::from(number);
-    ranges[1] = Range { low: source, high: source };
-    encode(true, &ranges)
-}
 
 fn any_number(random: &mut Random, favoured: &[u32], most: u32) -> u32 {
     let chosen = random.pick(favoured);
@@ -58,7 +40,7 @@ fn any_range(random: &mut Random, favoured: &[u32], most: u32) -> Range {
 }
 
 fn any_rule(random: &mut Random) -> Vec<u8> {
-    let ranges = NUMBERS.map(|(favoured, most, _)| any_range(random, favoured, most));
+    let ranges = NUMBERS.map(|(favoured, most)| any_range(random, favoured, most));
     encode(random.one_in(2), &ranges)
 }
 
@@ -70,7 +52,7 @@ fn sibling(random: &mut Random, rule: &[u8]) -> Vec<u8> {
     if which == 5 {
         return encode(!permit, &ranges);
     }
-    let (favoured, most, _) = NUMBERS[which];
+    let (favoured, most) = NUMBERS[which];
     ranges[which] = any_range(random, favoured, most);
     encode(permit, &ranges)
 }
@@ -92,19 +74,8 @@ pub fn catalogue(random: &mut Random, count: usize) -> Vec<Vec<u8>> {
     rules
 }
 
-/// The flow of these five numbers.
-pub fn flow_of(numbers: [u32; 5]) -> Flow {
-    Flow {
-        protocol: numbers[0] as u8,
-        source: numbers[1],
-        source_port: numbers[2] as u16,
-        destination: numbers[3],
-        destination_port: numbers[4] as u16,
-    }
-}
-
 pub fn any_flow(random: &mut Random) -> Flow {
-    flow_of(NUMBERS.map(|(favoured, most, _)| any_number(random, favoured, most)))
+    flow_of(NUMBERS.map(|(favoured, most)| any_number(random, favoured, most)))
 }
 
 fn number_near(random: &mut Random, range: Range, most: u32) -> u32 {
@@ -120,7 +91,7 @@ fn number_near(random: &mut Random, range: Range, most: u32) -> u32 {
 pub fn flow_near(random: &mut Random, rule: &[u8]) -> Flow {
     let ranges = ranges(rule);
     let mut which = 0;
-    flow_of(NUMBERS.map(|(_, most, _)| {
+    flow_of(NUMBERS.map(|(_, most)| {
         which += 1;
         number_near(random, ranges[which - 1], most)
     }))

@@ -3,7 +3,7 @@
 use super::draft::{Draft, Script};
 use super::random::Random;
 use crate::commands::Command;
-use crate::file::MOST_COMMANDS;
+use crate::format::MOST_COMMANDS;
 use crate::judge::{judge, Verdict};
 use crate::plan::plan;
 use crate::replay::RunningList;

@@ -3,7 +3,8 @@
 use super::damage::Field;
 use super::random::Random;
 use crate::commands::script_field;
-use crate::file::{check, file_bytes, numbers, Values, TAG_INITIAL, TAG_KEEP, TAG_RULE, TAG_SCRIPT, TAG_TARGET};
+use crate::file::{check, file_bytes, Values};
+use crate::format::{numbers, TAG_INITIAL, TAG_KEEP, TAG_RULE, TAG_SCRIPT, TAG_TARGET};
 use crate::plan::plan;
 
 /// What is lent where nothing will be written.

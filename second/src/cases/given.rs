@@ -1,0 +1,80 @@
+//! Field values for cases, and how they are put together.
+
+use crate::commands::{commands_of, script_value, Command};
+use crate::file::Values;
+use crate::format::{
+    add_field, list_value, numbers, RULE_BYTES, TAG_INITIAL, TAG_KEEP, TAG_RULE, TAG_SCRIPT, TAG_TARGET,
+};
+use crate::plan::plan;
+use crate::rule::plain_rule;
+
+/// Lent for a keep list and for a script that are said to be absent.
+const ABSENT_KEEP: [u8; 1] = [7];
+const ABSENT_SCRIPT: [u8; 1] = [9];
+
+/// Field values as they are given, sound or not.
+#[derive(Clone, Debug, Default)]
+pub struct Given {
+    pub rules: Vec<u8>,
+    pub initial: Vec<u8>,
+    pub target: Vec<u8>,
+    pub keep: Option<Vec<u8>>,
+    pub script: Option<Vec<u8>>,
+}
+
+impl Given {
+    pub fn values(&self) -> Values<'_> {
+        let (keep, script) = (self.keep.as_deref(), self.script.as_deref());
+        Values { rules: &self.rules, initial: &self.initial, target: &self.target, keep, script }
+    }
+
+    /// The script's bytes, also where it is said to be absent.
+    pub fn lent_script(&self) -> &[u8] {
+        self.script.as_deref().unwrap_or(&ABSENT_SCRIPT)
+    }
+
+    pub fn lent_keep(&self) -> &[u8] {
+        self.keep.as_deref().unwrap_or(&ABSENT_KEEP)
+    }
+
+    /// A file of these values; bytes that are too many for a rule stand in one more.
+    pub fn file(&self) -> Vec<u8> {
+        let mut file = Vec::new();
+        for rule in self.rules.chunks(RULE_BYTES) {
+            add_field(&mut file, TAG_RULE, rule);
+        }
+        add_field(&mut file, TAG_INITIAL, &self.initial);
+        add_field(&mut file, TAG_TARGET, &self.target);
+        for (tag, value) in [(TAG_KEEP, &self.keep), (TAG_SCRIPT, &self.script)] {
+            if let Some(value) = value {
+                add_field(&mut file, tag, value);
+            }
+        }
+        file
+    }
+
+    pub fn keep(self, keep: &[u16]) -> Given {
+        Given { keep: Some(list_value(keep)), ..self }
+    }
+
+    pub fn script(self, kind: u8, commands: &[Command]) -> Given {
+        Given { script: Some(script_value(kind, commands)), ..self }
+    }
+
+    /// With the planner's script.
+    pub fn planned(self, kind: u8) -> Given {
+        let keep = self.keep.as_deref().map(numbers);
+        let plan = plan(kind, &numbers(&self.initial), &numbers(&self.target), keep.as_deref());
+        self.script(kind, &plan.commands)
+    }
+
+    pub fn commands(&self) -> Vec<Command> {
+        self.script.as_deref().map(commands_of).unwrap_or_default()
+    }
+}
+
+/// Policies over so many plain rules.
+pub fn given(rules: u16, initial: &[u16], target: &[u16]) -> Given {
+    let rules = (0..rules).flat_map(plain_rule).collect();
+    Given { rules, initial: list_value(initial), target: list_value(target), keep: None, script: None }
+}
