@@ -4,8 +4,8 @@
 use Prim.Native.Nat.{ℕ, _≤_, _<_}
 use native.Mathlib.Omega.{arith}
 use mathlib.Core.Path.{_≡_, refl, sym, _∙_, ap, subst}
-use mathlib.Core.Bool.{false}
-use mathlib.Core.Logic.{⊎-elim}
+use mathlib.Core.Bool.{true, false}
+use mathlib.Core.Logic.{_⊎_, inl, inr, ⊎-elim}
 use mathlib.Core.List.{
   List,
   [],
@@ -26,6 +26,7 @@ use mathlib.Core.List.{
 use mathlib.Core.Option.{Option, none, some}
 use lib.ListN.{length, length-append}
 use lib.Dec.{eqb}
+use borrow.Author.Tests.{eqb-true, eqb-false}
 use Rattle.policy.specs.Lists.{mem}
 use Rattle.policy.specs.Policy.{most-rules}
 use Rattle.policy.specs.Rule.{Rule}
@@ -65,7 +66,12 @@ use Rattle.deployment.specs.Properties.{
   Readable,
   fieldsBytes,
 }
+use Rattle.deployment.specs.Claims.{Rises, TagsRise}
 use Rattle.deployment.proofs.Tests.{Says}
+
+-- fields by all their members
+abbrev pub fields : List Rule → Option (List ℕ) → Option (List ℕ) → Option (List ℕ) → Option Script → Fields
+fields c i t k s = record { catalogue = c; initial = i; target = t; keep = k; script = s }
 
 -- 2: a tag that can stand next, and that it is one of the table's.
 pub says-can-stand : (f : Fields) (tag : ℕ) → Says (mem tag (tagsAfter (lastTag f))) (CanStand f tag)
@@ -90,14 +96,65 @@ by-tag P last h rule initial target keep script =
 pub script-left : (last : ℕ) {tag : ℕ} → List·Memᴰ tag (tagsAfter last)
     → ¬ (tag ≡ rule-tag) → ¬ (tag ≡ initial-tag) → ¬ (tag ≡ target-tag) → ¬ (tag ≡ keep-tag) → tag ≡ script-tag
 script-left last {tag} h r i t k =
-    by-tag (λ x. tag ≡ x → tag ≡ script-tag) last h (λ e. absurd (r e)) (λ e. absurd (i e)) (λ e. absurd (t e)) (λ e. absurd (k e)) (λ e. e)
-    refl
+    by-tag (λ x. tag ≡ x → tag ≡ script-tag) last h (λ e. absurd (r e)) (λ e. absurd (i e)) (λ e. absurd (t e)) (λ e. absurd (k e))
+    (λ e. e) refl
+
+-- the table by order alone
+pub tags-rise : TagsRise
+unfolding tagsAfter
+tags-rise last tag = (forth, back)
+  where
+    row : (n x : ℕ) → 1 ≤ n → x ≤ 5 → (n < x) ⊎ ((n ≡ 1) × (x ≡ 1)) → (x ≤ 2) ⊎ (2 ≤ n) → (x ≤ 3) ⊎ (3 ≤ n) → eqb last n ≡ true
+        → Rises last x
+    row n x l m r i t e =
+        subst (λ (m : ℕ). Rises m x) (sym (eqb-true last n e))
+        (record { least = l; most = m; rises = r; initial = i; target = t })
+
+    forth : List·Memᴰ tag (tagsAfter last) → Rises last tag
+    forth h =
+        byTest (eqb last rule-tag)
+        (λ a. either (Rises last)
+        (row 1 1 (omega arith) (omega arith) (inr (refl, refl)) (inl (omega arith)) (inl (omega arith)) a)
+        (row 1 2 (omega arith) (omega arith) (inl (omega arith)) (inl (omega arith)) (inl (omega arith)) a) (rw a at h)) λ a.
+        byTest (eqb last initial-tag)
+        (λ b. only (Rises last)
+        (row 2 3 (omega arith) (omega arith) (inl (omega arith)) (inr (omega arith)) (inl (omega arith)) b) (rw (a, b) at h)) λ b.
+        byTest (eqb last target-tag)
+        (λ c. either (Rises last)
+        (row 3 4 (omega arith) (omega arith) (inl (omega arith)) (inr (omega arith)) (inr (omega arith)) c)
+        (row 3 5 (omega arith) (omega arith) (inl (omega arith)) (inr (omega arith)) (inr (omega arith)) c) (rw (a, b, c) at h)) λ c.
+        byTest (eqb last keep-tag)
+        (λ d. only (Rises last)
+        (row 4 5 (omega arith) (omega arith) (inl (omega arith)) (inr (omega arith)) (inr (omega arith)) d) (rw (a, b, c, d) at h)) λ d.
+        absurd (List·Memᴰ·not-nil (rw (a, b, c, d) at h))
+
+    in-row : (n x : ℕ) → last ≡ n → tag ≡ x → List·Memᴰ x (tagsAfter n) → List·Memᴰ tag (tagsAfter last)
+    in-row n x l t h = subst (λ (m : ℕ). List·Memᴰ tag (tagsAfter m)) (sym l) (subst (λ (y : ℕ). List·Memᴰ y (tagsAfter n)) (sym t) h)
+
+    go : 1 ≤ last → tag ≤ 5 → (last < tag) ⊎ ((last ≡ 1) × (tag ≡ 1)) → (tag ≤ 2) ⊎ (2 ≤ last) → (tag ≤ 3) ⊎ (3 ≤ last)
+        → List·Memᴰ tag (tagsAfter last)
+    go l m (inr b) i t = in-row 1 1 (b .0) (b .1) (List·Memᴰ·head refl)
+    go l m (inl r) (inl i) t = in-row 1 2 (omega arith) (omega arith) (List·Memᴰ·tail (List·Memᴰ·head refl))
+    go l m (inl r) (inr i) (inl t) = in-row 2 3 (omega arith) (omega arith) (List·Memᴰ·head refl)
+    go l m (inl r) (inr i) (inr t) =
+        byTest (eqb last 4)
+        (λ e. let four = eqb-true last 4 e in in-row 4 5 four (omega arith) (List·Memᴰ·head refl))
+        (λ e.
+        let below = eqb-false last 4 e in
+        byTest (eqb tag 4) (λ u. in-row 3 4 (omega arith) (eqb-true tag 4 u) (List·Memᴰ·head refl))
+        (λ u. let above = eqb-false tag 4 u in in-row 3 5 (omega arith) (omega arith) (List·Memᴰ·tail (List·Memᴰ·head refl))))
+
+    back : Rises last tag → List·Memᴰ tag (tagsAfter last)
+    back h = go (h .least) (h .most) (h .rises) (h .initial) (h .target)
 
 -- What would stand behind a tag that can stand next is absent.
 or-absent : {A : Type 0} (tag : ℕ) (o : Option A) (last : ℕ) → ¬ (tagOr tag o last ≡ tag) → (o ≡ none) × (tagOr tag o last ≡ last)
 unfolding tagOr
 or-absent tag none last n = (refl, refl)
 or-absent tag (some a) last n = absurd (n refl)
+
+abbrev pub NoneBehindRules : Fields → Type 0
+NoneBehindRules f = (f .initial ≡ none) × (f .target ≡ none) × (f .keep ≡ none) × (f .script ≡ none)
 
 module _ (f : Fields) {tag : ℕ} (stands : CanStand f tag) where
   not-last : (last : ℕ) → mem tag (tagsAfter last) ≡ false → ¬ (lastTag f ≡ last)
@@ -123,9 +180,11 @@ module _ (f : Fields) {tag : ℕ} (stands : CanStand f tag) where
             let h = or-absent target-tag (f .target) (lastTag (upToInitial f)) (λ e. not-last target-tag t (no-keep .1 ∙ e)) in
             (h .0, no-keep .1 ∙ h .1)
 
-        no-initial : mem tag (tagsAfter initial-tag) ≡ false → f .initial ≡ none
+        rules-alone : mem tag (tagsAfter initial-tag) ≡ false → NoneBehindRules f
         unfolding lastTag tagOr
-        no-initial i = or-absent initial-tag (f .initial) rule-tag (λ e. not-last initial-tag i (no-target .1 ∙ e)) .0
+        rules-alone i =
+            let h = or-absent initial-tag (f .initial) rule-tag (λ e. not-last initial-tag i (no-target .1 ∙ e)) in
+            (h .0, no-target .0, no-keep .0, no-script .0)
 
 -- by the tag: the members that are absent then
 pub before-script : (f : Fields) → CanStand f script-tag → f .script ≡ none
@@ -140,18 +199,13 @@ pub before-target : (f : Fields) → CanStand f target-tag → (f .target ≡ no
 unfolding tagsAfter mem
 before-target f h = (no-target f h refl refl refl .0, no-keep f h refl refl .0, no-script f h refl .0)
 
-abbrev pub NoneBehindRules : Fields → Type 0
-NoneBehindRules f = (f .initial ≡ none) × (f .target ≡ none) × (f .keep ≡ none) × (f .script ≡ none)
-
 pub before-initial : (f : Fields) → CanStand f initial-tag → NoneBehindRules f
 unfolding tagsAfter mem
-before-initial f h =
-    (no-initial f h refl refl refl refl, no-target f h refl refl refl .0, no-keep f h refl refl .0, no-script f h refl .0)
+before-initial f h = rules-alone f h refl refl refl refl
 
 pub before-rule : (f : Fields) → CanStand f rule-tag → NoneBehindRules f
 unfolding tagsAfter mem
-before-rule f h =
-    (no-initial f h refl refl refl refl, no-target f h refl refl refl .0, no-keep f h refl refl .0, no-script f h refl .0)
+before-rule f h = rules-alone f h refl refl refl refl
 
 -- keep list and script stand behind a target
 pub late : {A : Type 0} (initial : Option A) (tag : ℕ) → target-tag < tag → ¬ List·Memᴰ tag (tagsAfter (tagOr initial-tag initial rule-tag))
@@ -181,28 +235,22 @@ module _ (f : Fields) where
       → fieldsBytes (setCatalogue f (f .catalogue ++ (rule ∷ []))) ≡ fieldsBytes f ++ fieldBytes rule-tag (ruleBytes rule)
   unfolding fieldsBytes ifThere
   bytes-with-rule rule h =
-      let none-there = before-rule f h in
-      rw (none-there .0, none-there .1, none-there .2, none-there .3) (simp (map-snoc, joined-snoc, append-nil))
+      let n = before-rule f h in rw (n .0, n .1, n .2, n .3) (simp (map-snoc, joined-snoc, append-nil))
 
   pub bytes-with-initial : (i : List ℕ) → CanStand f initial-tag
       → fieldsBytes (setInitial f (some i)) ≡ fieldsBytes f ++ fieldBytes initial-tag (numbersBytes i)
   unfolding fieldsBytes ifThere
-  bytes-with-initial i h =
-      let none-there = before-initial f h in
-      rw (none-there .0, none-there .1, none-there .2, none-there .3) (simp append-nil)
+  bytes-with-initial i h = let n = before-initial f h in rw (n .0, n .1, n .2, n .3) (simp append-nil)
 
   pub bytes-with-target : (t : List ℕ) → CanStand f target-tag
       → fieldsBytes (setTarget f (some t)) ≡ fieldsBytes f ++ fieldBytes target-tag (numbersBytes t)
   unfolding fieldsBytes ifThere
-  bytes-with-target t h =
-      let none-there = before-target f h in
-      rw (none-there .0, none-there .1, none-there .2) (simp (append-nil, append-assoc))
+  bytes-with-target t h = let n = before-target f h in rw (n .0, n .1, n .2) (simp (append-nil, append-assoc))
 
   pub bytes-with-keep : (k : List ℕ) → CanStand f keep-tag
       → fieldsBytes (setKeep f (some k)) ≡ fieldsBytes f ++ fieldBytes keep-tag (numbersBytes k)
   unfolding fieldsBytes ifThere
-  bytes-with-keep k h =
-      let none-there = before-keep f h in rw (none-there .0, none-there .1) (simp (append-nil, append-assoc))
+  bytes-with-keep k h = let n = before-keep f h in rw (n .0, n .1) (simp (append-nil, append-assoc))
 
   pub bytes-with-script : (s : Script) → CanStand f script-tag
       → fieldsBytes (setScript f (some s)) ≡ fieldsBytes f ++ fieldBytes script-tag (scriptBytes s)
@@ -232,58 +280,33 @@ catalogue-snoc c rule h few r n =
 module _ (f : Fields) (r : Readable f) where
   pub readable-rule : (c : List Rule) → CanStand f rule-tag → Catalogue c → Readable (setCatalogue f c)
   readable-rule c h sound =
-      let none-there = before-rule f h in
-      record {
-        catalogue = sound;
-        initial = rw (none-there .0) tt;
-        target = rw (none-there .1) tt;
-        keep = rw (none-there .2) tt;
-        script = rw (none-there .3) tt;
-      }
+      let n = before-rule f h in
+      record { catalogue = sound; initial = rw (n .0) tt; target = rw (n .1) tt; keep = rw (n .2) tt; script = rw (n .3) tt }
 
   pub readable-initial : (i : List ℕ) → CanStand f initial-tag → Listed (length (f .catalogue)) i → Readable (setInitial f (some i))
   unfolding tagsAfter tagOr lastTag mem
   readable-initial i h sound =
-      let none-there = before-initial f h in
-      record {
-        catalogue = r .catalogue;
-        initial = (mem-in initial-tag (tagsAfter rule-tag) refl, sound);
-        target = rw (none-there .1) tt;
-        keep = rw (none-there .2) tt;
-        script = rw (none-there .3) tt;
-      }
+      let n = before-initial f h in
+      let stands = mem-in initial-tag (tagsAfter rule-tag) refl in
+      record { catalogue = r .catalogue; initial = (stands, sound); target = rw (n .1) tt; keep = rw (n .2) tt; script = rw (n .3) tt }
 
   pub readable-target : (t : List ℕ) → CanStand f target-tag → Listed (length (f .catalogue)) t → Readable (setTarget f (some t))
   unfolding tagsAfter mem
   readable-target t h sound =
-      let none-there = before-target f h in
-      record {
-        catalogue = r .catalogue;
-        initial = r .initial;
-        target = (subst (λ (n : ℕ). List·Memᴰ target-tag (tagsAfter n)) (no-target f h refl refl refl .1) h, sound);
-        keep = rw (none-there .1) tt;
-        script = rw (none-there .2) tt;
-      }
+      let n = before-target f h in
+      let stands = subst (λ (n : ℕ). List·Memᴰ target-tag (tagsAfter n)) (no-target f h refl refl refl .1) h in
+      record { catalogue = r .catalogue; initial = r .initial; target = (stands, sound); keep = rw (n .1) tt; script = rw (n .2) tt }
 
   pub readable-keep : (k : List ℕ) → CanStand f keep-tag → Sublistᴰ k (listed (f .initial)) → Sublistᴰ k (listed (f .target))
       → Readable (setKeep f (some k))
   unfolding tagsAfter mem
   readable-keep k h i t =
-      record {
-        catalogue = r .catalogue;
-        initial = r .initial;
-        target = r .target;
-        keep = (subst (λ (n : ℕ). List·Memᴰ keep-tag (tagsAfter n)) (no-keep f h refl refl .1) h, i, t);
-        script = rw (before-keep f h .1) tt;
-      }
+      let n = before-keep f h in
+      let stands = subst (λ (n : ℕ). List·Memᴰ keep-tag (tagsAfter n)) (no-keep f h refl refl .1) h in
+      record { catalogue = r .catalogue; initial = r .initial; target = r .target; keep = (stands, i, t); script = rw (n .1) tt }
 
   pub readable-script : (s : Script) → CanStand f script-tag → Scripted s → Readable (setScript f (some s))
   unfolding tagsAfter mem
   readable-script s h sound =
-      record {
-        catalogue = r .catalogue;
-        initial = r .initial;
-        target = r .target;
-        keep = r .keep;
-        script = (subst (λ (n : ℕ). List·Memᴰ script-tag (tagsAfter n)) (no-script f h refl .1) h, sound);
-      }
+      let stands = subst (λ (n : ℕ). List·Memᴰ script-tag (tagsAfter n)) (no-script f h refl .1) h in
+      record { catalogue = r .catalogue; initial = r .initial; target = r .target; keep = r .keep; script = (stands, sound) }

@@ -259,58 +259,52 @@ through-rules done (rule ∷ rest) h =
     (unlike-before done rule rest (h .unlike)))
     (rw append-assoc at (through-rules (done ++ (rule ∷ [])) rest (rw append-assoc h)))
 
--- the other fields, where they are there, behind those before them
+-- The other fields, where they are there, behind those before them: a policy, by the member that it sets.
+through-policy : (set : Fields → Option (List ℕ) → Fields) (tag : ℕ) (f : Fields) → tag < 256 → length (f .catalogue) ≤ most-rules
+    → (eqb tag rule-tag && leb most-rules (length (f .catalogue))) ≡ false → ((size : ℕ) → lengthFits tag size ≡ listFits size)
+    → ((value : List ℕ) → withField f (record { tag = tag; value = value }) ≡ withPolicy set f value) → set f none ≡ f
+    → (o : Option (List ℕ)) → IfThere (PolicyBehind f tag) o → Through f (ifThere tag numbersBytes o) (set f o)
+unfolding ifThere withPolicy
+through-policy set tag f small few other fits by-tag same none h = rw same through-none
+through-policy set tag f small few other fits by-tag same (some policy) h =
+    through-field f tag (numbersBytes policy) small (omega (arith, length-numbers policy, h .1 .few)) (in-mem _ _ (h .0)) other
+    (fits _ ∙ list-fits policy (h .1 .few)) (by-tag _ ∙ rw (policy-reads (length (f .catalogue)) policy few (h .1)))
+
 module _ (c : List Rule) (few : length c ≤ most-rules) where
-  through-initial : (initial : Option (List ℕ)) → IfThere (PolicyBehind (rulesOnly c) initial-tag) initial
-      → Through (rulesOnly c) (ifThere initial-tag numbersBytes initial) (setInitial (rulesOnly c) initial)
-  unfolding ifThere lengthFits withField withPolicy
-  through-initial none h = through-none
-  through-initial (some policy) h =
-      through-field (rulesOnly c) initial-tag (numbersBytes policy) (omega arith) (omega (arith, length-numbers policy, h .1 .few))
-      (in-mem _ _ (h .0)) refl (list-fits policy (h .1 .few)) (rw (policy-reads (length c) policy few (h .1)))
+  through-keep : (initial target keep : Option (List ℕ)) → let f = setTarget (setInitial (rulesOnly c) initial) target in
+      IfThere (PolicyBehind (setInitial (rulesOnly c) initial) target-tag) target → IfThere (KeepBehind f) keep
+      → Through f (ifThere keep-tag numbersBytes keep) (setKeep f keep)
+  unfolding ifThere lengthFits withField withKeep listed lastTag tagOr
+  through-keep initial target none h k = through-none
+  through-keep initial none (some keep) h k = absurd (late initial keep-tag (omega arith) (k .0))
+  through-keep initial (some target) (some keep) h k =
+      let short = keep-few (length c) target keep (h .1) (k .2) in
+      through-field (setTarget (setInitial (rulesOnly c) initial) (some target)) keep-tag (numbersBytes keep) (omega arith)
+      (omega (arith, length-numbers keep)) (in-mem _ _ (k .0)) refl (list-fits keep short)
+      (rw (keep-reads (length c) (listed initial) target keep few (h .1) (k .1) (k .2)))
 
-  module _ (initial : Option (List ℕ)) where
-    through-target : (target : Option (List ℕ)) → let f = setInitial (rulesOnly c) initial in
-        IfThere (PolicyBehind f target-tag) target → Through f (ifThere target-tag numbersBytes target) (setTarget f target)
-    unfolding ifThere lengthFits withField withPolicy
-    through-target none h = through-none
-    through-target (some policy) h =
-        through-field (setInitial (rulesOnly c) initial) target-tag (numbersBytes policy) (omega arith)
-        (omega (arith, length-numbers policy, h .1 .few)) (in-mem _ _ (h .0)) refl (list-fits policy (h .1 .few))
-        (rw (policy-reads (length c) policy few (h .1)))
-
-    through-keep : (target keep : Option (List ℕ)) → let f = setTarget (setInitial (rulesOnly c) initial) target in
-        IfThere (PolicyBehind (setInitial (rulesOnly c) initial) target-tag) target → IfThere (KeepBehind f) keep
-        → Through f (ifThere keep-tag numbersBytes keep) (setKeep f keep)
-    unfolding ifThere lengthFits withField withKeep listed lastTag tagOr
-    through-keep target none h k = through-none
-    through-keep none (some keep) h k = absurd (late initial keep-tag (omega arith) (k .0))
-    through-keep (some target) (some keep) h k =
-        let short = keep-few (length c) target keep (h .1) (k .2) in
-        through-field (setTarget (setInitial (rulesOnly c) initial) (some target)) keep-tag (numbersBytes keep) (omega arith)
-        (omega (arith, length-numbers keep)) (in-mem _ _ (k .0)) refl (list-fits keep short)
-        (rw (keep-reads (length c) (listed initial) target keep few (h .1) (k .1) (k .2)))
-
-  through-script : (f : Fields) (script : Option Script) → IfThere (ScriptBehind f) script
-      → f .script ≡ none → Through f (ifThere script-tag scriptBytes script) (setScript f script)
-  unfolding ifThere lengthFits withField withScript
-  through-script f none h absent = rw (← absent) through-none
-  through-script f (some script) h absent =
-      through-field f script-tag (scriptBytes script) (omega arith)
-      (omega (arith, length-script script, h .1 .few)) (in-mem _ _ (h .0)) refl (or-left false (script-fits script (h .1)))
-      (rw (script-reads script (h .1)))
+through-script : (f : Fields) (script : Option Script) → IfThere (ScriptBehind f) script
+    → f .script ≡ none → Through f (ifThere script-tag scriptBytes script) (setScript f script)
+unfolding ifThere lengthFits withField withScript
+through-script f none h absent = rw (← absent) through-none
+through-script f (some script) h absent =
+    through-field f script-tag (scriptBytes script) (omega arith)
+    (omega (arith, length-script script, h .1 .few)) (in-mem _ _ (h .0)) refl (or-left false (script-fits script (h .1)))
+    (rw (script-reads script (h .1)))
 
 -- the bytes of fields that can have been read lead the reader to those fields
 pub through-fields : (f : Fields) → Readable f → Through nothing (fieldsBytes f) f
-unfolding fieldsBytes nothing
+unfolding fieldsBytes nothing lengthFits withField
 through-fields f h =
     let c = f .catalogue in
     let few = h .catalogue .few in
     through-both (through-rules [] c (h .catalogue))
-    (through-both (through-initial c few (f .initial) (h .initial))
-    (through-both (through-target c few (f .initial) (f .target) (h .target))
+    (through-both
+    (through-policy setInitial initial-tag (rulesOnly c) (omega arith) few refl (λ n. refl) (λ value. refl) refl (f .initial) (h .initial))
+    (through-both
+    (through-policy setTarget target-tag (upToInitial f) (omega arith) few refl (λ n. refl) (λ value. refl) refl (f .target) (h .target))
     (through-both (through-keep c few (f .initial) (f .target) (f .keep) (h .target) (h .keep))
-    (through-script c few (upToKeep f) (f .script) (h .script) refl))))
+    (through-script (upToKeep f) (f .script) (h .script) refl))))
 
 pub read-through : (f : Fields) (left : List ℕ) → Readable f
     → readFrom 0 nothing 0 (fieldsBytes f ++ left) ≡ readFrom 0 f (length (fieldsBytes f)) left

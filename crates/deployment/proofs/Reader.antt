@@ -20,11 +20,6 @@ use Rattle.deployment.specs.Values.{Script}
 use Rattle.deployment.specs.Contents.{Contents, ruleRead, policyRead, keepRead, scriptRead}
 use Rattle.deployment.specs.File.{
   Fields,
-  rulesOnly,
-  setInitial,
-  setTarget,
-  setKeep,
-  setScript,
   nothing,
   listed,
   tagsAfter,
@@ -61,6 +56,8 @@ use Rattle.deployment.specs.Properties.{
   Scripted,
   IfThere,
   There,
+  upToTarget,
+  upToKeep,
   KeepBehind,
   ScriptBehind,
   Readable,
@@ -90,6 +87,7 @@ use Rattle.deployment.proofs.Numbers.{both-same, reading-numbers-say}
 use Rattle.deployment.proofs.Bytes.{are-bytes-drop, length-part}
 use Rattle.deployment.proofs.Values.{byOption}
 use Rattle.deployment.proofs.Tests.{Each, Turns, each-then, tested, rule-tested, policy-tested, keep-tested, script-tested}
+use Rattle.deployment.proofs.Fields.{fields}
 use Rattle.deployment.proofs.Taken.{ValueRight, taken, whole-read, taken-right, fails-taken}
 use Rattle.deployment.proofs.ReadBack.{pass-over, read-through, there-too, valid-fits}
 
@@ -135,7 +133,7 @@ turned-away : (f : Fields) (left : List ℕ) {number : ℕ} → Readable f → F
     → TurnedAway (fieldsBytes f ++ left) number (length (fieldsBytes f))
 turned-away f left r fails = record { fields = f; left = left; is = refl; readable = r; counted = refl; fails = fails }
 
-keepable : (f : Fields) (keep : Option (List ℕ)) → IfThere (KeepBehind f) keep → Keepable (listed (f .initial)) (listed (f .target)) keep
+keepable : (f : Fields) (keep : Option (List ℕ)) → IfThere (KeepBehind (upToTarget f)) keep → Keepable (listed (f .initial)) (listed (f .target)) keep
 keepable f none h = tt
 keepable f (some k) h = (h .1, h .2)
 
@@ -144,20 +142,19 @@ unfolding atEnd fieldsBytes ifThere fileOf listed tagsAfter tagOr lastTag mem
 end-right f r = go (f .catalogue) (f .initial) (f .target) (f .keep) (f .script) r
   where
     go : (c : List Rule) (i t k : Option (List ℕ)) (s : Option Script)
-        → let f = setScript (setKeep (setTarget (setInitial (rulesOnly c) i) t) k) s in
-        Readable f → ReadingRight (fieldsBytes f ++ []) (atEnd f (length (fieldsBytes f)))
+        → let f = fields c i t k s in Readable f → ReadingRight (fieldsBytes f ++ []) (atEnd f (length (fieldsBytes f)))
     go c i none k s r = turned-away _ [] r (no-target refl (λ h. h))
     go c none (some t) k s r = absurd (not-mem target-tag (tagsAfter rule-tag) refl (r .target .0))
     go c (some i) (some t) k s r =
-        let f = setTarget (setInitial (rulesOnly c) (some i)) (some t) in (
+        let f = fields c (some i) (some t) k s in (
           record {
             catalogue = r .catalogue;
             initial = r .initial .1;
             target = r .target .1;
             keep = keepable f k (r .keep);
-            script = there-too (ScriptBehind (setKeep f k)) Scripted (λ s h. h .1) s (r .script);
+            script = there-too (ScriptBehind (upToKeep f)) Scripted (λ s h. h .1) s (r .script);
           },
-          sym (append-nil (fieldsBytes (setScript (setKeep f k) s))),
+          sym (append-nil (fieldsBytes f)),
         )
 
 -- a reading that goes on is right where every later one is: a field is turned away, or is passed and its bytes join those so far

@@ -1,8 +1,8 @@
 -- One field against the table of refusals: a field that is read is whole, one that is turned away fails as its row says, and one
 -- that fails so is turned away. The idea: test by test, then by the tag. Assumes nothing.
-use Prim.Native.Nat.{ℕ, _+_, _*_, _≤_, _<_}
+use Prim.Native.Nat.{ℕ, _+_, _*_, _≤_}
 use native.Mathlib.Omega.{arith}
-use mathlib.Core.Path.{_≡_, refl, sym, _∙_, ap, subst}
+use mathlib.Core.Path.{_≡_, refl, _∙_, ap, subst}
 use mathlib.Core.Bool.{true, not, _&&_}
 use mathlib.Core.Logic.{_⊎_, inl, inr, ⊎-elim}
 use mathlib.Core.List.{List, [], _∷_, _++_, append-assoc}
@@ -161,31 +161,10 @@ field-right f left some-left =
     (λ e. cut (inr (measured, leb-false (head-bytes + sizeOf left) (length left) e))) λ e.
     (measured, leb-true (head-bytes + sizeOf left) (length left) e)
 
--- The value, by its tag.
-pub with-rule : (f : Fields) (tag : ℕ) (value : List ℕ) → tag ≡ rule-tag
-    → withField f (record { tag = tag; value = value }) ≡ withRule f value
-unfolding withField
-with-rule f tag value e = rw e
-
-pub with-initial : (f : Fields) (tag : ℕ) (value : List ℕ) → tag ≡ initial-tag
-    → withField f (record { tag = tag; value = value }) ≡ withPolicy setInitial f value
-unfolding withField
-with-initial f tag value e = rw e
-
-pub with-target : (f : Fields) (tag : ℕ) (value : List ℕ) → tag ≡ target-tag
-    → withField f (record { tag = tag; value = value }) ≡ withPolicy setTarget f value
-unfolding withField
-with-target f tag value e = rw e
-
-pub with-keep : (f : Fields) (tag : ℕ) (value : List ℕ) → tag ≡ keep-tag
-    → withField f (record { tag = tag; value = value }) ≡ withKeep f value
-unfolding withField
-with-keep f tag value e = rw e
-
-pub with-script : (f : Fields) (tag : ℕ) (value : List ℕ) → tag ≡ script-tag
-    → withField f (record { tag = tag; value = value }) ≡ withScript f value
-unfolding withField
-with-script f tag value e = rw e
+-- a value is read by its tag
+pub with-tag : (f : Fields) (value : List ℕ) {tag x : ℕ} → tag ≡ x
+    → withField f (record { tag = tag; value = value }) ≡ withField f (record { tag = x; value = value })
+with-tag f value e = ap (λ (t : ℕ). withField f (record { tag = t; value = value })) e
 
 -- a field that is whole stands at the head of the bytes, and what is left stands behind it
 pub field-and-rest : (left : List ℕ) → AreBytes left → head-bytes + sizeOf left ≤ length left
@@ -312,20 +291,19 @@ module _ (left : List ℕ) (b : AreBytes left) where
 
   pub value-right : (f : Fields) → Readable f → Whole f left
       → ValueRight f left (withField f (record { tag = tagOf left; value = valueOf left }))
+  unfolding withField
   value-right f r whole =
-      let right = ValueRight f left (withField f (record { tag = tagOf left; value = valueOf left })) in
-      by-tag (λ tag. tagOf left ≡ tag → right) (lastTag f) (whole .0 .0 .0 .1)
-      (λ e. rw (with-rule f _ _ e) (rule-right f r whole e))
+      by-tag (λ tag. tagOf left ≡ tag → ValueRight f left (withField f (record { tag = tag; value = valueOf left })))
+      (lastTag f) (whole .0 .0 .0 .1)
+      (rule-right f r whole)
       (λ e.
       let stands = whole-stands f initial-tag whole e in
-      rw (with-initial f _ _ e) (policy-right setInitial initial-tag f whole e (inl e)
-      (λ p. readable-initial f r p stands) (λ p. bytes-with-initial f p stands)))
+      policy-right setInitial initial-tag f whole e (inl e) (λ p. readable-initial f r p stands) (λ p. bytes-with-initial f p stands))
       (λ e.
       let stands = whole-stands f target-tag whole e in
-      rw (with-target f _ _ e) (policy-right setTarget target-tag f whole e (inr e)
-      (λ p. readable-target f r p stands) (λ p. bytes-with-target f p stands)))
-      (λ e. rw (with-keep f _ _ e) (keep-right f r whole e))
-      (λ e. rw (with-script f _ _ e) (script-right f r whole e))
+      policy-right setTarget target-tag f whole e (inr e) (λ p. readable-target f r p stands) (λ p. bytes-with-target f p stands))
+      (keep-right f r whole)
+      (script-right f r whole)
       refl
 
 -- The other way: a field that fails as a row of the table says is turned away with that row's number.
@@ -359,6 +337,9 @@ module _ (f : Fields) (left : List ℕ) where
   pub whole-taken : Whole f left → taken f left ≡ withField f (record { tag = tagOf left; value = valueOf left })
   whole-taken h = ap (λ (read : Checked Field). _>>=_ read (withField f)) (whole-read h)
 
+  tag-taken : {tag : ℕ} → Whole f left → tagOf left ≡ tag → taken f left ≡ withField f (record { tag = tag; value = valueOf left })
+  tag-taken h e = whole-taken h ∙ with-tag f (valueOf left) e
+
   pub taken-right : Readable f → AreBytes left → 1 ≤ length left → ValueRight f left (taken f left)
   taken-right r b some-left = go (fieldRead f left) refl (field-right f left some-left)
     where
@@ -370,7 +351,7 @@ module _ (f : Fields) (left : List ℕ) where
   turned why e = rw e refl
 
   pub fails-taken : {number : ℕ} → 1 ≤ length left → FieldFails f left number → Turns number (taken f left)
-  unfolding fieldRead withRule ruleRead withPolicy policyRead withKeep keepRead withScript scriptRead
+  unfolding fieldRead withField withRule ruleRead withPolicy policyRead withKeep keepRead withScript scriptRead
   fails-taken some-left (cut h) =
       turned Cut (⊎-elim (λ h. rw (lt-leb head-bytes (length left) (h .1)))
       (λ h. rw (
@@ -389,33 +370,19 @@ module _ (f : Fields) (left : List ℕ) where
   fails-taken some-left (rule-too-many h many) =
       turned TooMany (rw (headed-test (h .0), tagged-test h, denies-of-not (says-too-many f (tagOf left)) .1 many))
   fails-taken some-left (wrong-bounds whole e wrong) =
-      turned Bounds
-      (whole-taken whole ∙ with-rule f (tagOf left) (valueOf left) e ∙ rw (denies-bounds (valueOf left) .1 wrong))
+      turned Bounds (tag-taken whole e ∙ rw (denies-bounds (valueOf left) .1 wrong))
   fails-taken some-left (equal-rule whole e right same) =
-      turned Equal
-      (whole-taken whole ∙ with-rule f (tagOf left) (valueOf left) e
-      ∙ rw (not-denies (denies-bounds (valueOf left)) right, in-known (ruleOf (valueOf left)) (f .catalogue) same))
+      let fits = not-denies (denies-bounds (valueOf left)) right in
+      turned Equal (tag-taken whole e ∙ rw (fits, in-known (ruleOf (valueOf left)) (f .catalogue) same))
   fails-taken some-left (names-outside whole either out) =
       let outside = denies-inside (length (f .catalogue)) (numbersOf (valueOf left)) .1 out in
-      turned Outside
-      (whole-taken whole
-      ∙ ⊎-elim
-      (λ e. with-initial f (tagOf left) (valueOf left) e ∙ rw outside)
-      (λ e. with-target f (tagOf left) (valueOf left) e ∙ rw outside)
-      either)
+      turned Outside (⊎-elim (λ e. tag-taken whole e ∙ rw outside) (λ e. tag-taken whole e ∙ rw outside) either)
   fails-taken some-left (names-twice whole either in-catalogue same) =
       let inside = not-denies (denies-inside (length (f .catalogue)) (numbersOf (valueOf left))) in-catalogue in
       let twice = not-says (says-differ (numbersOf (valueOf left))) same in
-      turned Twice
-      (whole-taken whole
-      ∙ ⊎-elim
-      (λ e. with-initial f (tagOf left) (valueOf left) e ∙ rw (inside, twice))
-      (λ e. with-target f (tagOf left) (valueOf left) e ∙ rw (inside, twice))
-      either)
+      turned Twice (⊎-elim (λ e. tag-taken whole e ∙ rw (inside, twice)) (λ e. tag-taken whole e ∙ rw (inside, twice)) either)
   fails-taken some-left (keep-astray whole e astray) =
-      turned Keep
-      (whole-taken whole ∙ with-keep f (tagOf left) (valueOf left) e
-      ∙ rw (not-says (says-occurs (numbersOf (valueOf left)) (listed (f .initial)) (listed (f .target))) astray))
+      let says = says-occurs (numbersOf (valueOf left)) (listed (f .initial)) (listed (f .target)) in
+      turned Keep (tag-taken whole e ∙ rw (not-says says astray))
   fails-taken some-left (wrong-coding whole e wrong) =
-      turned Coding
-      (whole-taken whole ∙ with-script f (tagOf left) (valueOf left) e ∙ rw (wrong-none (valueOf left) wrong, scriptRead))
+      turned Coding (tag-taken whole e ∙ rw (wrong-none (valueOf left) wrong, scriptRead))

@@ -2,8 +2,8 @@
 -- proofs/ has, for each, a proof of the same name in small letters with hyphens. Assumes nothing.
 use Prim.Native.Nat.{ℕ, _≤_, _<_}
 use mathlib.Core.Path.{_≡_}
-use mathlib.Core.Logic.{_↔_}
-use mathlib.Core.List.{List, [], _∷_, map}
+use mathlib.Core.Logic.{_↔_, _⊎_}
+use mathlib.Core.List.{List, [], _∷_, map, List·Memᴰ}
 use mathlib.Core.Option.{Option, none, some}
 use lib.ListN.{length, take}
 use Rattle.policy.specs.declared.Decision.{Decision}
@@ -12,7 +12,7 @@ use Rattle.deployment.specs.Checked.{whyNumber, refusalNumbers}
 use Rattle.deployment.specs.Bytes.{joined}
 use Rattle.deployment.specs.Values.{Script, ruleBytes, numbersBytes, scriptBytes}
 use Rattle.deployment.specs.Contents.{Contents}
-use Rattle.deployment.specs.File.{Reading, accepted, refused, readingNumbers, readFile, readToJudge, fileOf}
+use Rattle.deployment.specs.File.{tagsAfter, Reading, accepted, refused, readingNumbers, readFile, readToJudge, fileOf}
 use Rattle.deployment.specs.FieldValues.{FieldValues, readValues, writtenNumbers}
 use Rattle.deployment.specs.Flows.{flowOf, flowBytes, decisionOf, decisionBytes}
 use Rattle.deployment.specs.Properties.{AreBytes, Numbered, IfThere, Valid, TurnedAway, ValuesFail}
@@ -34,6 +34,18 @@ ReadingNumbersSay = (reading : Reading) (refusal : Refusal) → (readingNumbers 
 
 abbrev pub WrittenNumbersSay : Type 0
 WrittenNumbersSay = (answer : Written) (refusal : Refusal) → (writtenNumbers answer ≡ refusalNumbers refusal) ↔ (answer ≡ Turned refusal)
+
+-- "Tags stand in rising order", "Times": the table of the tags that can stand next, by order alone. A tag can stand after the last one
+-- exactly when both are tags, it is above the last, or both are those of rules, and neither policy is passed over.
+pub record Rises (last tag : ℕ) : Type 0 where
+  pub least : 1 ≤ last
+  pub most : tag ≤ 5
+  pub rises : (last < tag) ⊎ ((last ≡ 1) × (tag ≡ 1))
+  pub initial : (tag ≤ 2) ⊎ (2 ≤ last)
+  pub target : (tag ≤ 3) ⊎ (3 ≤ last)
+
+abbrev pub TagsRise : Type 0
+TagsRise = (last tag : ℕ) → List·Memᴰ tag (tagsAfter last) ↔ Rises last tag
 
 -- "those of an accepted file, written, give that file": and what is accepted is valid
 abbrev pub WrittenAgain : Type 0

@@ -128,7 +128,7 @@ upToTarget f = setTarget (upToInitial f) (f .target)
 abbrev pub upToKeep : Fields → Fields
 upToKeep f = setKeep (upToTarget f) (f .keep)
 
--- values that can stand behind fields: where their tag can, and with what they must have there
+-- values that can stand behind these fields: their tag can stand there, and they are right for the catalogue and the policies there
 abbrev pub PolicyBehind : Fields → ℕ → List ℕ → Type 0
 PolicyBehind f tag policy = CanStand f tag × Listed (length (f .catalogue)) policy
 

@@ -55,11 +55,7 @@ use Rattle.deployment.proofs.Taken.{
   FieldRight,
   field-right,
   whole-read,
-  with-rule,
-  with-initial,
-  with-target,
-  with-keep,
-  with-script,
+  with-tag,
   rule-size,
   list-size,
   script-size,
@@ -121,9 +117,9 @@ module _
   pub checked-rule : tag ≡ rule-tag
       → checking (ruleValue (take (progress .layout .rules) (catalogueOf 3 file)) value)
       ≡ checking (withField f (record { tag = tag; value = value }))
-  unfolding ruleValue withRule
+  unfolding ruleValue withField withRule
   checked-rule e =
-      rw (with-rule f tag value e, same-catalogue, eq-eqb (length value) rule-bytes (rule-size e right))
+      rw (with-tag f value e, same-catalogue, eq-eqb (length value) rule-bytes (rule-size e right))
       (checking-last (ruleRead (f .catalogue) value) _)
 
   list-fits : ¬ (tag ≡ rule-tag) → ¬ (tag ≡ script-tag) → listFits (length value) ≡ true
@@ -132,15 +128,15 @@ module _
   pub checked-policy : (tag ≡ initial-tag) ⊎ (tag ≡ target-tag)
       → checking (policyValue (min (progress .layout .rules) 1024) value)
       ≡ checking (withField f (record { tag = tag; value = value }))
-  unfolding policyValue withPolicy
+  unfolding policyValue withField withPolicy
   checked-policy which =
       let few : min (progress .layout .rules) 1024 ≡ length (f .catalogue) =
       omega (arith, same-count file progress f b, b .readable .catalogue .few) in
       let fits = list-fits (⊎-elim (λ e. omega arith) (λ e. omega arith) which) (⊎-elim (λ e. omega arith) (λ e. omega arith) which) in
       rw (few, fits)
       (⊎-elim
-      (λ e. rw (with-initial f tag value e) (checking-last (policyRead (length (f .catalogue)) value) _))
-      (λ e. rw (with-target f tag value e) (checking-last (policyRead (length (f .catalogue)) value) _))
+      (λ e. rw (with-tag f value {tag = tag} {x = initial-tag} e) (checking-last (policyRead (length (f .catalogue)) value) _))
+      (λ e. rw (with-tag f value {tag = tag} {x = target-tag} e) (checking-last (policyRead (length (f .catalogue)) value) _))
       which)
 
   same-initial : numbersOf (valueAt (progress .layout .initial) file) ≡ listed (f .initial)
@@ -161,16 +157,16 @@ module _
       → target ≡ valueAt (progress .layout .target) file → tag ≡ keep-tag
       → checking (keepValue (numbersOf initial) (numbersOf target) (some value))
       ≡ checking (withField f (record { tag = tag; value = value }))
-  unfolding keepValue withKeep
+  unfolding keepValue withField withKeep
   checked-keep initial target i t e =
-      rw (with-keep f tag value e, list-fits (omega arith) (omega arith), i, t, same-initial, same-target)
+      rw (with-tag f value e, list-fits (omega arith) (omega arith), i, t, same-initial, same-target)
       (sym (checking-last (keepRead (listed (f .initial)) (listed (f .target)) value) _)
       ∙ checking-last (keepRead (listed (f .initial)) (listed (f .target)) value) _)
 
   pub checked-script : ¬ (tag ≡ rule-tag) → ¬ (tag ≡ initial-tag) → ¬ (tag ≡ target-tag) → ¬ (tag ≡ keep-tag)
       → checking (scriptValue (some value)) ≡ checking (withField f (record { tag = tag; value = value }))
-  unfolding scriptValue withScript
+  unfolding scriptValue withField withScript
   checked-script r i t k =
       let e = script-left (lastTag f) (read-stands f (drop (progress .at) file) tag value read) r i t k in
-      rw (with-script f tag value e, says-script (length value) .1 (script-size e right))
+      rw (with-tag f value e, says-script (length value) .1 (script-size e right))
       (sym (checking-last (scriptRead value) _) ∙ checking-last (scriptRead value) _)

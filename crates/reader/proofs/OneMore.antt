@@ -2,10 +2,9 @@
 -- its tests makes one. Assumes nothing.
 use Prim.Native.Nat.{ℕ, _+_}
 use native.Mathlib.Omega.{arith}
-use mathlib.Core.Path.{_≡_, refl, sym, _∙_, ap, subst}
+use mathlib.Core.Path.{_≡_, refl, _∙_, ap}
 use mathlib.Core.Bool.{true}
 use mathlib.Core.List.{List, [], _∷_, _++_}
-use mathlib.Core.Option.{none, some}
 use lib.ListN.{length, length-append}
 use Rattle.deployment.specs.Checked.{Checked, good, bad, _>>=_}
 use Rattle.deployment.specs.Values.{numbersBytes, ruleBytes, scriptBytes}
@@ -41,7 +40,6 @@ use Rattle.deployment.proofs.Fields.{
   bytes-with-keep,
   bytes-with-script,
 }
-use Rattle.deployment.proofs.Taken.{with-rule, with-initial, with-target, with-keep, with-script}
 use Rattle.deployment.proofs.ReadBack.{length-field}
 use Rattle.reader.specs.Answers.{spanFrom, spanIf, endOf, there, keepBytes, commandBytes}
 use Rattle.reader.specs.Steps.{layoutSoFar, More, a-rule, an-initial, a-target, a-keep, a-script}
@@ -155,25 +153,25 @@ module _ (layout : Layout) (span : Span) where
   placed-script {f} (a-script s h) l w = let n = before-script f h in rw (l, w, fields-end f, n)
 
 -- Fields with one more, where the tests of its value passed.
-grown : {A : Type 0} {f : Fields} {tag x : ℕ} (read : Checked A) (with : A → Fields) (written : A → List ℕ) (g : Fields) → tag ≡ x
-    → ((a : A) → More f x (written a) (with a)) → _>>=_ read (λ a. good (with a)) ≡ good g → (w : List ℕ) × More f tag w g
-grown (good a) with written g t more e = (written a, let same : with a ≡ g = cc in rw (t, ← same) (more a))
-grown (bad why) with written g t more e = absurd (let z : _≡_ {A = ℕ} 0 1 = cc in omega arith)
+grown : {A : Type 0} {f : Fields} {tag : ℕ} (read : Checked A) (with : A → Fields) (written : A → List ℕ) (g : Fields)
+    → ((a : A) → More f tag (written a) (with a)) → _>>=_ read (λ a. good (with a)) ≡ good g → (w : List ℕ) × More f tag w g
+grown (good a) with written g more e = (written a, let same : with a ≡ g = cc in rw (← same) (more a))
+grown (bad why) with written g more e = absurd (let z : _≡_ {A = ℕ} 0 1 = cc in omega arith)
 
 pub more-of : (f : Fields) (tag : ℕ) (value : List ℕ) (g : Fields) → CanStand f tag
     → withField f (record { tag = tag; value = value }) ≡ good g → (w : List ℕ) × More f tag w g
-unfolding withRule withPolicy withKeep withScript
+unfolding withField withRule withPolicy withKeep withScript
 more-of f tag value g stands e =
     let policy = policyRead (length (f .catalogue)) value in
-    by-tag (λ x. tag ≡ x → (w : List ℕ) × More f tag w g) (lastTag f) stands
-    (λ is. grown (ruleRead (f .catalogue) value) _ ruleBytes g is (λ a. a-rule a (subst (CanStand f) is stands)) (sym (with-rule f tag value is) ∙ e))
-    (λ is. grown policy _ numbersBytes g is (λ a. an-initial a (subst (CanStand f) is stands)) (sym (with-initial f tag value is) ∙ e))
-    (λ is. grown policy _ numbersBytes g is (λ a. a-target a (subst (CanStand f) is stands)) (sym (with-target f tag value is) ∙ e))
-    (λ is.
-    grown (keepRead (listed (f .initial)) (listed (f .target)) value) _ numbersBytes g is (λ a. a-keep a (subst (CanStand f) is stands))
-    (sym (with-keep f tag value is) ∙ e))
-    (λ is. grown (scriptRead value) _ scriptBytes g is (λ a. a-script a (subst (CanStand f) is stands)) (sym (with-script f tag value is) ∙ e))
-    refl
+    let keep = keepRead (listed (f .initial)) (listed (f .target)) value in
+    by-tag (λ x. CanStand f x → withField f (record { tag = x; value = value }) ≡ good g → (w : List ℕ) × More f x w g)
+    (lastTag f) stands
+    (λ h. grown (ruleRead (f .catalogue) value) _ ruleBytes g (λ a. a-rule a h))
+    (λ h. grown policy _ numbersBytes g (λ a. an-initial a h))
+    (λ h. grown policy _ numbersBytes g (λ a. a-target a h))
+    (λ h. grown keep _ numbersBytes g (λ a. a-keep a h))
+    (λ h. grown (scriptRead value) _ scriptBytes g (λ a. a-script a h))
+    stands e
 
 -- how far it leads
 pub more-long : {f g : Fields} {tag : ℕ} {value : List ℕ} → More f tag value g

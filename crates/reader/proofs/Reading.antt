@@ -18,11 +18,6 @@ use Rattle.deployment.specs.Catalogue.{catalogueOf}
 use Rattle.deployment.specs.File.{
   Fields,
   Field,
-  rulesOnly,
-  setInitial,
-  setTarget,
-  setKeep,
-  setScript,
   listed,
   tagsAfter,
   tagOr,
@@ -44,7 +39,7 @@ use Rattle.deployment.specs.Properties.{CanStand, Readable, fieldsBytes, sizeOf
 use Rattle.deployment.specs.declared.Why.the-variants.{NoTarget}
 use Rattle.deployment.specs.declared.Why.{Why}
 use Rattle.deployment.proofs.Bytes.{are-bytes-drop}
-use Rattle.deployment.proofs.Fields.{late}
+use Rattle.deployment.proofs.Fields.{fields, late}
 use Rattle.deployment.proofs.Taken.{rule-size, ValueRight, taken, taken-right}
 use Rattle.deployment.proofs.ReadBack.{read-through}
 use Rattle.deployment.proofs.Reader.{nothing-readable, refusal-row}
@@ -248,15 +243,12 @@ module _ (file : List ℕ) (progress : Progress) (f : Fields) (b : Begun file pr
             rw named
 
 -- The end of the file: 3 where no target is there.
-abbrev all : List Rule → Option (List ℕ) → Option (List ℕ) → Option (List ℕ) → Option Script → Fields
-all c i t k s = setScript (setKeep (setTarget (setInitial (rulesOnly c) i) t) k) s
-
 pub ended-early : (f : Fields) → lastTag f < target-tag → (at : ℕ) → Refused (record { why = NoTarget; at = at }) ≡ shown (atEnd f at)
 unfolding lastTag tagOr atEnd shown
 ended-early f below at = go (f .catalogue) (f .initial) (f .target) (f .keep) (f .script) below
   where
-    go : (c : List Rule) (i t k : Option (List ℕ)) (s : Option Script) → lastTag (all c i t k s) < target-tag
-        → Refused (record { why = NoTarget; at = at }) ≡ shown (atEnd (all c i t k s) at)
+    go : (c : List Rule) (i t k : Option (List ℕ)) (s : Option Script) → lastTag (fields c i t k s) < target-tag
+        → Refused (record { why = NoTarget; at = at }) ≡ shown (atEnd (fields c i t k s) at)
     go c i none k s h = refl
     go c i (some t) none none h = absurd (omega arith)
     go c i (some t) (some k) none h = absurd (omega arith)
@@ -266,8 +258,8 @@ pub ended-late : (f : Fields) → Readable f → target-tag ≤ lastTag f → (a
 unfolding lastTag tagOr tagsAfter mem atEnd shown layoutSoFar layoutOf listed keepBytes spanIf
 ended-late f r above at = go (f .catalogue) (f .initial) (f .target) (f .keep) (f .script) r above
   where
-    go : (c : List Rule) (i t k : Option (List ℕ)) (s : Option Script) → Readable (all c i t k s)
-        → target-tag ≤ lastTag (all c i t k s) → Accepted (layoutSoFar (all c i t k s)) ≡ shown (atEnd (all c i t k s) at)
+    go : (c : List Rule) (i t k : Option (List ℕ)) (s : Option Script) → Readable (fields c i t k s)
+        → target-tag ≤ lastTag (fields c i t k s) → Accepted (layoutSoFar (fields c i t k s)) ≡ shown (atEnd (fields c i t k s) at)
     go c (some i) (some t) k s r h = refl
     go c none (some t) k s r h = absurd (not-mem target-tag (tagsAfter rule-tag) refl (r .target .0))
     go c i none (some k) s r h = absurd (late i keep-tag (omega arith) (r .keep .0))
