@@ -4,7 +4,7 @@ use Rattle.policy.specs.Lists.{all, pick, mem, contains, before, after, without
 use Rattle.policy.specs.Command.{ruleAt, lifted, placed, moved}
 use Rattle.policy.specs.AppendDelete.{keptRun, planOne}
 use Rattle.policy.specs.InsertDeleteMove.{ownChoice, keptTwo, inserted, reached, moveUp, already, raised, left, takeOne}
-use Rattle.policy.specs.InsertDeleteMove.{stageOne, firstStage, ahead, stageTwo, secondStage, planTwo}
+use Rattle.policy.specs.InsertDeleteMove.{takeAll, firstStage, ahead, takeWaiting, secondStage, planTwo}
 use Rattle.policy.specs.Judge.{verdictNumbers}
 use Rattle.listing.specs.Text.{text, digits, decimal, spaced, named, commandText, lineText, linesText, headText, blockText, planBlock, planText}
 use Rattle.listing.specs.Text.{refusedText, spacedAll, verdictText}
@@ -12,7 +12,7 @@ use Rattle.listing.specs.Examples.{first-example, FirstExamplePrinted, L
 
 pub first-example-printed : FirstExamplePrinted
 unfolding first-example all pick mem contains before after without missing same ruleAt lifted placed moved keptRun planOne
-    ownChoice keptTwo inserted reached moveUp already raised left takeOne stageOne firstStage ahead stageTwo secondStage planTwo
+    ownChoice keptTwo inserted reached moveUp already raised left takeOne takeAll firstStage ahead takeWaiting secondStage planTwo
     text digits decimal spaced named commandText lineText linesText headText blockText planBlock planText
 first-example-printed = refl
 

@@ -16,13 +16,14 @@ use lib.Seq.{drop-cons}
 use Rattle.policy.specs.Lists.{pick, mem, before, after, without, common}
 use Rattle.policy.specs.Properties.{In, Distinct}
 use Rattle.policy.specs.InsertDeleteMove.{Standing, settled, waiting, ruleOf, Halves, Taken, inserted, reached, raised, left, moveUp}
-use Rattle.policy.specs.InsertDeleteMove.{takeOne, stageOne, firstStage}
+use Rattle.policy.specs.InsertDeleteMove.{takeOne, takeAll, firstStage}
 use Rattle.policy.specs.declared.Command.{Command}
 use Rattle.policy.proofs.Tests.{byTest, not-first}
 use Rattle.policy.proofs.Lists.{mem-in, in-mem, not-in, before-after}
 use Rattle.policy.proofs.Order.{sublist-in, sublist-tails, sublist-past}
 use Rattle.policy.proofs.Counting.{pick-in, common-occurring}
-use Rattle.policy.proofs.StageOne.{Given, settled-waiting, take-cases, first-stage}
+use Rattle.policy.proofs.Front.{Given, settled-waiting}
+use Rattle.policy.proofs.FirstStage.{take-cases, first-stage}
 use Rattle.policy.proofs.Stages.{rules-join, standing, standing-reverse}
 use Rattle.running.specs.declared.Running.{Running}
 use Rattle.running.specs.Running.{view}
@@ -32,7 +33,7 @@ use Rattle.planner.specs.Sending.{Sent}
 use Rattle.planner.specs.Marks.{Marks}
 use Rattle.planner.specs.InsertDeleteMove.{settledIn, Stands, takes, Did, Took, standingBy, frontOf, FirstStage}
 use Rattle.planner.proofs.Sending.{none-sent, sent-more}
-use Rattle.planner.proofs.StageOne.{settled-join}
+use Rattle.planner.proofs.TakeOne.{settled-join}
 
 -- What occurs in order behind a rule, and without one.
 sublist-behind : (r : ℕ) (k l : List ℕ) → Sublistᴰ (r ∷ k) l → Sublistᴰ k (after r l)
@@ -174,8 +175,8 @@ pub record Turn (initial target kept old : List ℕ) (stage : Stage) (field : Li
   pub halves : Halves
   pub commands : List Command
   pub stands : Stands stage halves
-  pub next : (stageOne initial kept halves (drop j target)) .next ≡ (firstStage initial kept target) .next
-  pub all : commands ++ (stageOne initial kept halves (drop j target)) .sent ≡ (firstStage initial kept target) .sent
+  pub next : (takeAll initial kept halves (drop j target)) .next ≡ (firstStage initial kept target) .next
+  pub all : commands ++ (takeAll initial kept halves (drop j target)) .sent ≡ (firstStage initial kept target) .sent
   pub counted : stage .sent ≡ length commands
   pub sent : Sent old 0 commands field
   pub few : length commands ≤ j
@@ -213,7 +214,7 @@ module _ (initial target kept : List ℕ) (given : Given 1024 initial target kep
     -- one rule more
     pub turn-more : (r : ℕ) (was keep : Bool) (next : Stage) (written : List ℕ) → j < length target → r ≡ getD target j 0
         → was ≡ mem r initial → keep ≡ mem r kept → Took stage r was keep field next written → Turn initial target kept old next written (j + 1)
-    unfolding takes takeOne stageOne
+    unfolding takes takeOne takeAll
     turn-more r was keep next written more is-next is-common is-kept took =
         let ts = drop (j + 1) target in
         let h = turn .halves in
@@ -239,7 +240,7 @@ module _ (initial target kept : List ℕ) (given : Given 1024 initial target kep
 
     -- all rules are taken
     pub turn-last : length target ≤ j → FirstStage initial target kept old stage field
-    unfolding stageOne frontOf
+    unfolding takeAll frontOf
     turn-last end =
         let h = turn .halves in
         let none : drop j target ≡ [] = drop-of-length-le target {i = j} end in

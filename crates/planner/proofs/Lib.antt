@@ -8,7 +8,7 @@ pub mod Places
 pub mod Looking
 pub mod Edits
 pub mod OwnChoice
-pub mod StageOne
+pub mod TakeOne
 pub mod FirstStage
 pub mod SecondStage
 pub mod PlanTwo

@@ -14,7 +14,7 @@ use Rattle.policy.specs.Lists.{mem, after}
 use Rattle.policy.specs.Properties.{In}
 use Rattle.policy.specs.Claims.{Policy}
 use Rattle.policy.specs.Command.{coded, lifted, moved}
-use Rattle.policy.specs.InsertDeleteMove.{Standing, waiting, ahead, stageTwo, secondStage}
+use Rattle.policy.specs.InsertDeleteMove.{Standing, waiting, ahead, takeWaiting, secondStage}
 use Rattle.policy.specs.declared.Command.{Command}
 use Rattle.policy.specs.declared.Command.the-variants.{DelPlace, Mov}
 use Rattle.policy.proofs.Tests.{byTest, truly}
@@ -101,7 +101,7 @@ pub record Pass (target : List ℕ) (marks : List Bool) (first old : List ℕ) (
   pub commands : List Command
   pub is : view list ≡ take i first ++ done
   pub inside : i ≤ length first
-  pub all : commands ++ stageTwo target (reverse (map (standingBy marks) (take i first))) done ≡ secondStage target (map (standingBy marks) first)
+  pub all : commands ++ takeWaiting target (reverse (map (standingBy marks) (take i first))) done ≡ secondStage target (map (standingBy marks) first)
   pub counted : sent ≡ start + length commands
   pub sends : Sent old start commands field
 
@@ -119,9 +119,9 @@ left-one marks first i h =
 
 -- a waiting rule's command, and what follows
 two-waiting : (target : List ℕ) (r : ℕ) (left : List Standing) (done : List ℕ)
-    → stageTwo target (waiting r ∷ left) done ≡ settling target (suc (length left)) r done ∷ stageTwo target left (settledDone target r done)
-unfolding stageTwo settling settledDone
-two-waiting target r left done = byTest (mem r target) (λ t. rw (t, stageTwo)) (λ f. rw (f, stageTwo))
+    → takeWaiting target (waiting r ∷ left) done ≡ settling target (suc (length left)) r done ∷ takeWaiting target left (settledDone target r done)
+unfolding takeWaiting settling settledDone
+two-waiting target r left done = byTest (mem r target) (λ t. rw (t, takeWaiting)) (λ f. rw (f, takeWaiting))
 
 module _ (target : List ℕ) (marks : List Bool) (first old : List ℕ) (start : ℕ) where
   pub pass-first : (list : Running) → view list ≡ first → length old ≡ 5124 → start ≤ 1024
@@ -163,7 +163,7 @@ module _ (target : List ℕ) (marks : List Bool) (first old : List ℕ) (start :
 
     -- a settled rule becomes the first of `done`
     pub pass-settled : getD marks next-rule false ≡ true → Pass target marks first old start list sent field i
-    unfolding stageTwo standingBy
+    unfolding takeWaiting standingBy
     pass-settled marked =
         record {
           done = next-rule ∷ pass .done;
@@ -176,7 +176,7 @@ module _ (target : List ℕ) (marks : List Bool) (first old : List ℕ) (start :
         }
 
     module _ (unmarked : getD marks next-rule false ≡ false) where
-      tail : pass .commands ++ (settling target (suc (length left-of)) next-rule (pass .done) ∷ stageTwo target left-of (settledDone target next-rule (pass .done)))
+      tail : pass .commands ++ (settling target (suc (length left-of)) next-rule (pass .done) ∷ takeWaiting target left-of (settledDone target next-rule (pass .done)))
           ≡ secondStage target (map (standingBy marks) first)
       unfolding standingBy
       tail =
@@ -191,7 +191,7 @@ module _ (target : List ℕ) (marks : List Bool) (first old : List ℕ) (start :
             arith,
             pass .counted,
             ap length tail,
-            length-append (pass .commands) (settling target (suc (length left-of)) next-rule (pass .done) ∷ stageTwo target left-of (settledDone target next-rule (pass .done))),
+            length-append (pass .commands) (settling target (suc (length left-of)) next-rule (pass .done) ∷ takeWaiting target left-of (settledDone target next-rule (pass .done))),
           )
 
       -- a waiting rule is settled
@@ -220,7 +220,7 @@ module _ (target : List ℕ) (marks : List Bool) (first old : List ℕ) (start :
   pub pass-last : (list : Running) (sent : ℕ) (field : List ℕ) → Pass target marks first old start list sent field 0
       → (sent ≡ start + length (secondStage target (map (standingBy marks) first)))
       × Sent old start (secondStage target (map (standingBy marks) first)) field
-  unfolding stageTwo
+  unfolding takeWaiting
   pass-last list sent field pass =
       let all : pass .commands ≡ secondStage target (map (standingBy marks) first) = sym (append-nil (pass .commands)) ∙ pass .all in
       (pass .counted ∙ ap (λ (l : List Command). start + length l) all, rw all at (pass .sends))

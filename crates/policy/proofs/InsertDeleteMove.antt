@@ -18,8 +18,9 @@ use Rattle.policy.proofs.Counting.{common-occurring, pick-count, common
 use Rattle.policy.proofs.Way.{Forward, Sound, Steps, steps-leads}
 use Rattle.policy.proofs.Stages.{Fit, spares-untouched, Leg, leg-append, waitingCount, waiting-reverse}
 use Rattle.policy.proofs.Kept.{kept-keepable, to-keep-in}
-use Rattle.policy.proofs.StageOne.{Given, first-stage, first-stage-count}
-use Rattle.policy.proofs.StageTwo.{stage-two, stage-two-count}
+use Rattle.policy.proofs.Front.{Given}
+use Rattle.policy.proofs.FirstStage.{first-stage, first-stage-count}
+use Rattle.policy.proofs.SecondStage.{take-waiting, take-waiting-count}
 
 given : (size : ℕ) (initial target : List ℕ) (keep : Option (List ℕ)) → Accepted size initial target keep
     → Given size initial target (keptTwo initial target keep)
@@ -35,7 +36,7 @@ plan-two-leg size initial target keep a =
     let kept = keptTwo initial target keep in
     let one = first-stage size initial target kept (given size initial target keep a) in
     let front = (firstStage initial kept target) .next .front in
-    leg-append (one .1) (stage-two size initial target kept (a .last .distinct) (reverse front) [] (one .0) (one .2))
+    leg-append (one .1) (take-waiting size initial target kept (a .last .distinct) (reverse front) [] (one .0) (one .2))
 
 pub plan-two-steps : (size : ℕ) (initial target : List ℕ) (keep : Option (List ℕ)) → Accepted size initial target keep
     → Steps (Sound initial target) (Forward initial target) size initial (planTwo initial target keep) target
@@ -77,7 +78,7 @@ plan-two-count size initial target keep a =
     omega (
       arith,
       length-append ((firstStage initial kept target) .sent) (secondStage target front),
-      stage-two-count target (reverse front) [],
+      take-waiting-count target (reverse front) [],
       waiting-reverse front [],
       first-stage-count size initial target kept (given size initial target keep a),
       pick-count (λ x. mem x initial) target,

@@ -16,8 +16,9 @@ pub mod AppendDelete
 pub mod Fewest
 pub mod Kept
 pub mod Stages
-pub mod StageOne
-pub mod StageTwo
+pub mod Front
+pub mod FirstStage
+pub mod SecondStage
 pub mod InsertDeleteMove
 pub mod Plans
 pub mod Examples

@@ -11,7 +11,7 @@ use lib.Seq.{append-snoc}
 use Rattle.policy.specs.Lists.{mem, before, after, without}
 use Rattle.policy.specs.AppendDelete.{planOne}
 use Rattle.policy.specs.InsertDeleteMove.{keptTwo, Standing, settled, waiting, Halves, Taken, reached, moveUp, raised}
-use Rattle.policy.specs.InsertDeleteMove.{takeOne, stageOne, firstStage, stageTwo, secondStage, planTwo}
+use Rattle.policy.specs.InsertDeleteMove.{takeOne, takeAll, firstStage, takeWaiting, secondStage, planTwo}
 use Rattle.policy.specs.Judge.{verdict, verdictNumbers}
 use Rattle.policy.specs.Properties.{In, Distinct, Within, After}
 use Rattle.policy.specs.Claims.{Policy, SafeDecidesAsOne, NotFullKeepsTheDefault, PlanOneVerdict, PlanOneKeepsTheDefault}
@@ -25,7 +25,7 @@ use Rattle.policy.proofs.Decisions.{ordered-and-full-decides-as-one, or
 use Rattle.policy.proofs.Judge.{verdict-not-full, verdict-safe, all-ordered-passes}
 use Rattle.policy.proofs.Once.{steps-change-once}
 use Rattle.policy.proofs.AppendDelete.{kept-run-self, plan-one-count, plan-one-steps, plan-one-reaches}
-use Rattle.policy.proofs.StageOne.{settled-waiting}
+use Rattle.policy.proofs.Front.{settled-waiting}
 use Rattle.policy.proofs.InsertDeleteMove.{plan-two-steps, plan-two-count}
 
 pub safe-decides-as-one : SafeDecidesAsOne
@@ -95,32 +95,32 @@ take-nothing initial kept front r rest h =
     (λ t. rw (in-mem r initial h, t, here) (refl, refl))
     (λ f. rw (in-mem r initial h, f, here) (refl, refl))
 
-stage-one-nothing : (initial kept : List ℕ) (front : List Standing) (ts : List ℕ) → Within ts initial
-    → ((stageOne initial kept (record { front = front; rest = ts }) ts) .sent ≡ [])
-    × ((stageOne initial kept (record { front = front; rest = ts }) ts) .next .front ≡ front ++ map settled ts)
-unfolding stageOne
-stage-one-nothing initial kept front [] w = (refl, refl)
-stage-one-nothing initial kept front (r ∷ ts) w =
+take-all-nothing : (initial kept : List ℕ) (front : List Standing) (ts : List ℕ) → Within ts initial
+    → ((takeAll initial kept (record { front = front; rest = ts }) ts) .sent ≡ [])
+    × ((takeAll initial kept (record { front = front; rest = ts }) ts) .next .front ≡ front ++ map settled ts)
+unfolding takeAll
+take-all-nothing initial kept front [] w = (refl, refl)
+take-all-nothing initial kept front (r ∷ ts) w =
     let one = take-nothing initial kept front r ts (w r (List·Memᴰ·head refl)) in
-    let others = stage-one-nothing initial kept (front ++ (settled r ∷ [])) ts (λ x h. w x (List·Memᴰ·tail h)) in
-    let then : Halves → Taken = λ h. stageOne initial kept h ts in (
+    let others = take-all-nothing initial kept (front ++ (settled r ∷ [])) ts (λ x h. w x (List·Memᴰ·tail h)) in
+    let then : Halves → Taken = λ h. takeAll initial kept h ts in (
       rw (one .0) (ap (λ (h : Halves). (then h) .sent) (one .1) ∙ others .0),
       ap (λ (h : Halves). (then h) .next .front) (one .1) ∙ others .1 ∙ append-snoc front (settled r) (map settled ts),
     )
 
-stage-two-nothing : (target : List ℕ) (front : List Standing) (done : List ℕ)
-    → ((w : ℕ) → ¬ List·Memᴰ (waiting w) front) → stageTwo target front done ≡ []
-unfolding stageTwo
-stage-two-nothing target [] done n = refl
-stage-two-nothing target (settled r ∷ front) done n =
-    stage-two-nothing target front (r ∷ done) (λ w h. n w (List·Memᴰ·tail h))
-stage-two-nothing target (waiting r ∷ front) done n = absurd (n r (List·Memᴰ·head refl))
+take-waiting-nothing : (target : List ℕ) (front : List Standing) (done : List ℕ)
+    → ((w : ℕ) → ¬ List·Memᴰ (waiting w) front) → takeWaiting target front done ≡ []
+unfolding takeWaiting
+take-waiting-nothing target [] done n = refl
+take-waiting-nothing target (settled r ∷ front) done n =
+    take-waiting-nothing target front (r ∷ done) (λ w h. n w (List·Memᴰ·tail h))
+take-waiting-nothing target (waiting r ∷ front) done n = absurd (n r (List·Memᴰ·head refl))
 
 plan-two-nothing : (initial : List ℕ) (keep : Option (List ℕ)) → planTwo initial initial keep ≡ []
 unfolding planTwo firstStage secondStage
 plan-two-nothing initial keep =
-    let one = stage-one-nothing initial (keptTwo initial initial keep) [] initial (λ r h. h) in
-    let settles = stage-two-nothing initial (reverse (map settled initial)) []
+    let one = take-all-nothing initial (keptTwo initial initial keep) [] initial (λ r h. h) in
+    let settles = take-waiting-nothing initial (reverse (map settled initial)) []
     (λ w h. let from = Memᴰ·of-map settled initial (reverse-in (waiting w) (map settled initial) h) in
     settled-waiting (from .0) w (from .2)) in
     rw (one .0, one .1) settles

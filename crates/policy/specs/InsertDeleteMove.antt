@@ -89,12 +89,12 @@ takeOne initial kept h r =
     (left h)))
 
 -- "First stage. .. Take the target's rules in order": "At the end all remaining rules join, waiting."
-unfoldable pub stageOne : List ℕ → List ℕ → Halves → List ℕ → Taken
-stageOne initial kept h [] =
+unfoldable pub takeAll : List ℕ → List ℕ → Halves → List ℕ → Taken
+takeAll initial kept h [] =
     record { sent = []; in-place = 0; next = record { front = h .front ++ map waiting (h .rest); rest = [] } }
-stageOne initial kept h (r ∷ target) =
+takeAll initial kept h (r ∷ target) =
     let one = takeOne initial kept h r in
-    let others = stageOne initial kept (one .next) target in
+    let others = takeAll initial kept (one .next) target in
     record {
       sent = one .sent ++ others .sent;
       in-place = one .in-place + others .in-place;
@@ -103,7 +103,7 @@ stageOne initial kept h (r ∷ target) =
 
 -- "The front of the running list starts empty."
 unfoldable pub firstStage : List ℕ → List ℕ → List ℕ → Taken
-firstStage initial kept target = stageOne initial kept (record { front = []; rest = initial }) target
+firstStage initial kept target = takeAll initial kept (record { front = []; rest = initial }) target
 
 -- how many of the settled rules come before the first one that follows r in the target: all of them if there is none
 unfoldable pub ahead : List ℕ → ℕ → List ℕ → ℕ
@@ -113,19 +113,19 @@ ahead target r (x ∷ done) = cond (mem x (after r target)) 0 (suc (ahead target
 -- "Second stage. Take the waiting rules from last place to first. One that is not in the target is deleted. Any other is moved
 -- to stand just before the first settled rule that follows it in the target, or to the end if there is none; it is then settled."
 -- The first list is the front still to be gone through, last place first; the second is what stands behind it, all settled.
-unfoldable pub stageTwo : List ℕ → List Standing → List ℕ → List Command
-stageTwo target [] done = []
-stageTwo target (settled r ∷ front) done = stageTwo target front (r ∷ done)
-stageTwo target (waiting r ∷ front) done =
+unfoldable pub takeWaiting : List ℕ → List Standing → List ℕ → List Command
+takeWaiting target [] done = []
+takeWaiting target (settled r ∷ front) done = takeWaiting target front (r ∷ done)
+takeWaiting target (waiting r ∷ front) done =
     elim (mem r target) [
       | true ↦
           Mov (suc (length front)) (suc (length front) + ahead target r done)
-          ∷ stageTwo target front (placed (suc (ahead target r done)) r done)
-      | false ↦ DelPlace (suc (length front)) ∷ stageTwo target front done
+          ∷ takeWaiting target front (placed (suc (ahead target r done)) r done)
+      | false ↦ DelPlace (suc (length front)) ∷ takeWaiting target front done
     ]
 
 unfoldable pub secondStage : List ℕ → List Standing → List Command
-secondStage target front = stageTwo target (reverse front) []
+secondStage target front = takeWaiting target (reverse front) []
 
 unfoldable pub planTwo : List ℕ → List ℕ → Option (List ℕ) → List Command
 planTwo initial target keep =

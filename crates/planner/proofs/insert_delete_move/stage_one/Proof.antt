@@ -9,7 +9,7 @@ use lib.ListN.{length, take, getD}
 use lib.Seq.{getD-take}
 use Rattle.policy.proofs.Lists.{place-in}
 use Rattle.policy.proofs.Order.{sublist-distinct}
-use Rattle.policy.proofs.StageOne.{Given}
+use Rattle.policy.proofs.Front.{Given}
 use Rattle.running.specs.Running.{view}
 use Rattle.running.specs.Places.{Says}
 use Rattle.running.proofs.Edits.{view-count}

@@ -1,5 +1,5 @@
 -- `take_one` does what the definition does for one rule of the target, by its four cases: each way out of the code is one of them, and the law
--- of that case in StageOne closes it. Assumes nothing.
+-- of that case in TakeOne closes it. Assumes nothing.
 use Prim.Native.Nat.{_≤_, _<_}
 use native.Mathlib.Omega.{arith}
 use mathlib.Core.Path.{_≡_, refl, sym, _∙_}
@@ -10,7 +10,7 @@ use lib.Dec.{eqb}
 use Rattle.running.specs.Running.{view}
 use Rattle.planner.proofs.Looking.{found-fits}
 use Rattle.planner.proofs.Edits.{ins-gives, mov-gives}
-use Rattle.planner.proofs.StageOne.{did-insert, did-reach, did-pass, did-stay, did-move}
+use Rattle.planner.proofs.TakeOne.{did-insert, did-reach, did-pass, did-stay, did-move}
 use Rattle.planner.proofs.insert_delete_move.take_one.Statement.{statement}
 use Rattle.planner.proofs.insert_delete_move.take_one.Tie as tie
 

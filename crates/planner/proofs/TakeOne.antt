@@ -34,15 +34,15 @@ settled-append [] v = refl
 settled-append (settled r ∷ u) v = ap (λ (l : List ℕ). r ∷ l) (settled-append u v)
 settled-append (waiting r ∷ u) v = settled-append u v
 
-settled-waiting : (l : List ℕ) → settledIn (map waiting l) ≡ []
+none-settled : (l : List ℕ) → settledIn (map waiting l) ≡ []
 unfolding settledIn
-settled-waiting [] = refl
-settled-waiting (x ∷ l) = settled-waiting l
+none-settled [] = refl
+none-settled (x ∷ l) = none-settled l
 
 -- rules that join waiting are not among them
 pub settled-join : (front : List Standing) (l : List ℕ) → settledIn (front ++ map waiting l) ≡ settledIn front
 settled-join front l =
-    settled-append front (map waiting l) ∙ ap (λ (m : List ℕ). settledIn front ++ m) (settled-waiting l) ∙ append-nil (settledIn front)
+    settled-append front (map waiting l) ∙ ap (λ (m : List ℕ). settledIn front ++ m) (none-settled l) ∙ append-nil (settledIn front)
 
 -- How many stand before a rule.
 until-before : (r : ℕ) (l : List ℕ) → until (λ x. eqb x r) l ≡ length (before r l)

@@ -14,7 +14,7 @@ use lib.ListN.{length, length-append}
 use lib.Seq.{append-snoc}
 use Rattle.policy.specs.Lists.{mem, after}
 use Rattle.policy.specs.Command.{placed}
-use Rattle.policy.specs.InsertDeleteMove.{Standing, settled, waiting, ruleOf, ahead, stageTwo}
+use Rattle.policy.specs.InsertDeleteMove.{Standing, settled, waiting, ruleOf, ahead, takeWaiting}
 use Rattle.policy.specs.Properties.{In, Distinct, Within, Precedes, SupportedBy}
 use Rattle.policy.specs.declared.Command.the-variants.{DelPlace, Mov}
 use Rattle.policy.proofs.Tests.{byTest, not-first, not-second}
@@ -264,29 +264,29 @@ module _ (size : ℕ) (initial target kept : List ℕ) (d : Distinct target) whe
             (lifts u r (x ++ y) (ap suc (sym (standing-length left))) at (p .unkept r (List·Memᴰ·head refl))),
       )
 
-  pub stage-two : (left : List Standing) (done l : List ℕ)
-      → Passing initial target kept left done l → Leg size initial target kept l (stageTwo target left done) target
-  unfolding stageTwo
-  stage-two [] done l p =
+  pub take-waiting : (left : List Standing) (done l : List ℕ)
+      → Passing initial target kept left done l → Leg size initial target kept l (takeWaiting target left done) target
+  unfolding takeWaiting
+  take-waiting [] done l p =
       let at : l ≡ done = p .is in
       leg-none (passing-sound p)
       (at ∙ same-order done target (rw at at (p .distinct)) d (p .inside) (λ x h. rw at at (p .whole x h)) (p .follows))
-  stage-two (settled r ∷ left) done l p = stage-two left (r ∷ done) l (pass-settled r left done l p)
-  stage-two (waiting r ∷ left) done l p =
+  take-waiting (settled r ∷ left) done l p = take-waiting left (r ∷ done) l (pass-settled r left done l p)
+  take-waiting (waiting r ∷ left) done l p =
       byTest (mem r target)
       (λ t. let now = placed (suc (ahead target r done)) r done in
       let moved = lower r left done now l (mem-in r target t) p refl in
-      rw (t, stageTwo) (leg-append (moved .1) (stage-two left now (standing left ++ now) (moved .0))))
+      rw (t, takeWaiting) (leg-append (moved .1) (take-waiting left now (standing left ++ now) (moved .0))))
       (λ f. let gone = delete r left done l (not-mem r target f) p in
-      rw (f, stageTwo) (leg-append (gone .1) (stage-two left done (standing left ++ done) (gone .0))))
+      rw (f, takeWaiting) (leg-append (gone .1) (take-waiting left done (standing left ++ done) (gone .0))))
 
 -- The second stage sends one command for each rule that waits.
-pub stage-two-count : (target : List ℕ) (left : List Standing) (done : List ℕ)
-    → length (stageTwo target left done) ≡ waitingCount left
-unfolding stageTwo waitingCount
-stage-two-count target [] done = refl
-stage-two-count target (settled r ∷ left) done = stage-two-count target left (r ∷ done)
-stage-two-count target (waiting r ∷ left) done =
+pub take-waiting-count : (target : List ℕ) (left : List Standing) (done : List ℕ)
+    → length (takeWaiting target left done) ≡ waitingCount left
+unfolding takeWaiting waitingCount
+take-waiting-count target [] done = refl
+take-waiting-count target (settled r ∷ left) done = take-waiting-count target left (r ∷ done)
+take-waiting-count target (waiting r ∷ left) done =
     byTest (mem r target)
-    (λ t. rw (t, stageTwo) (ap suc (stage-two-count target left (placed (suc (ahead target r done)) r done))))
-    (λ f. rw (f, stageTwo) (ap suc (stage-two-count target left done)))
+    (λ t. rw (t, takeWaiting) (ap suc (take-waiting-count target left (placed (suc (ahead target r done)) r done))))
+    (λ f. rw (f, takeWaiting) (ap suc (take-waiting-count target left done)))
