@@ -1,4 +1,4 @@
-// What the case programs share: the rows that their arguments name, and the lines that they print.
+// What `vectors` and the case programs share: the files that their arguments name, rows, checksums, and the lines that they print.
 // A row is a two-byte length and that many bytes, again and again.
 
 ghost use Prim.Native.Nat.{_≤_, _-_};
@@ -13,16 +13,23 @@ use reader::file::value;
 
 const LENGTH_BYTES: usize = 2;
 
-// Prints the name of a row, the i-th argument, and reads as much of it as `row` has room for.
-pub fn read_row(i: usize, row: &mut [u8]) -> usize
-    ensures { λ n. ⌜ Counts n (now (row .exit)) ⌝ }
+// A checksum is a polynomial in BASE modulo the largest prime of two bytes, or of four.
+const BASE: u64 = 257;
+
+const TWO_BYTE_PRIME: u64 = 65521;
+
+const FOUR_BYTE_PRIME: u64 = 4294967291;
+
+// Prints the i-th argument, the name of a file, and reads as much of the file as `place` has room for.
+pub fn read_argument(i: usize, place: &mut [u8]) -> usize
+    ensures { λ n. ⌜ Counts n (now (place .exit)) ⌝ }
 {
     let mut name = io::buffer();
     let n = os::arg(i, &mut name);
     io::write_all(STDOUT_FILENO, &name[..n]);
     io::write_all(STDOUT_FILENO, b"\n");
     let fd = os::open_read(&name[..n]);
-    let got = io::read_full(fd, row);
+    let got = io::read_full(fd, place);
     libc::close(fd);
     got
 }
@@ -65,6 +72,26 @@ pub fn next_place(row: &[u8], at: usize) -> usize
         return len;
     }
     at + size
+}
+
+// A checksum with one more byte.
+fn summed(sum: u32, byte: u8, wide: bool) -> u32 {
+    let more = sum as u64 * BASE + byte as u64;
+    if wide {
+        return (more % FOUR_BYTE_PRIME) as u32;
+    }
+    (more % TWO_BYTE_PRIME) as u32
+}
+
+// The checksum of bytes: in four bytes where it is to be wide, else in two.
+pub fn checksum(bytes: &[u8], wide: bool) -> u32 {
+    let mut sum = 1;
+    let mut i = 0;
+    while i < bytes.len() {
+        sum = summed(sum, bytes[i], wide);
+        i += 1;
+    }
+    sum
 }
 
 pub fn print_number(word: &[u8], n: usize) {

@@ -3,11 +3,12 @@
 // themselves a row: the file; or the rules, both policies, the keep list and the script; and last flows, for the entries that take many at once.
 
 use cases::bytes_at;
+use cases::checksum;
 use cases::next_place;
 use cases::print_number;
 use cases::print_reading;
 use cases::print_refusal;
-use cases::read_row;
+use cases::read_argument;
 use deployment::Written;
 use deployment::four;
 use deployment::two;
@@ -27,11 +28,6 @@ use reader::file::value;
 
 // What a lent place holds before a call.
 const LENT: u8 = 165;
-
-// A checksum is a polynomial in BASE modulo PRIME.
-const BASE: u64 = 257;
-
-const PRIME: u64 = 4294967291;
 
 // Where the numbers of a case stand.
 const OVER_LISTS: usize = 0;
@@ -126,23 +122,8 @@ fn print_checking(answer: Checking) {
     }
 }
 
-// A checksum with one more byte.
-fn summed(sum: u32, byte: u8) -> u32 {
-    ((sum as u64 * BASE + byte as u64) % PRIME) as u32
-}
-
-fn checksum(bytes: &[u8]) -> u32 {
-    let mut sum = 1;
-    let mut i = 0;
-    while i < bytes.len() {
-        sum = summed(sum, bytes[i]);
-        i += 1;
-    }
-    sum
-}
-
 fn print_place(place: &[u8]) {
-    print_number(b" place ", checksum(place) as usize);
+    print_number(b" place ", checksum(place, true) as usize);
     print(b"\n");
 }
 
@@ -404,13 +385,17 @@ fn print_row(row: &[u8]) {
     }
 }
 
+fn print_argument(i: usize) {
+    let mut row = io::large_buffer();
+    let got = read_argument(i, &mut row);
+    print_row(&row[..got]);
+}
+
 fn main() {
     let count = os::arg_count();
     let mut i = 1;
     while i < count {
-        let mut row = io::large_buffer();
-        let got = read_row(i, &mut row);
-        print_row(&row[..got]);
+        print_argument(i);
         i += 1;
     }
 }

@@ -1,6 +1,6 @@
 // Prints, for each file that an argument names, its name and what `planlist`, `judgelist` and `showlist` print for it.
 
-use libc::STDOUT_FILENO;
+use cases::read_argument;
 use listing::judge_text;
 use listing::plan_text;
 use showing::MOST_SHOWN;
@@ -18,19 +18,17 @@ fn print_texts(file: &[u8]) {
     print(&place, shown);
 }
 
+fn print_argument(i: usize) {
+    let mut file = io::large_buffer();
+    let got = read_argument(i, &mut file);
+    print_texts(&file[..got]);
+}
+
 fn main() {
     let count = os::arg_count();
     let mut i = 1;
     while i < count {
-        let mut name = io::buffer();
-        let n = os::arg(i, &mut name);
-        io::write_all(STDOUT_FILENO, &name[..n]);
-        io::write_all(STDOUT_FILENO, b"\n");
-        let fd = os::open_read(&name[..n]);
-        let mut file = io::large_buffer();
-        let got = io::read_full(fd, &mut file);
-        libc::close(fd);
-        print_texts(&file[..got]);
+        print_argument(i);
         i += 1;
     }
 }

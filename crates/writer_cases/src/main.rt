@@ -6,11 +6,12 @@ ghost use mathlib.Core.Path.{_≡_};
 ghost use Prim.Native.Nat.{_≤_};
 ghost use lib.ListN.{length};
 use cases::bytes_at;
+use cases::checksum;
 use cases::next_place;
 use cases::print_number;
 use cases::print_reading;
 use cases::print_refusal;
-use cases::read_row;
+use cases::read_argument;
 use deployment::Written;
 use deployment::two;
 use libc::STDOUT_FILENO;
@@ -46,21 +47,6 @@ fn print_kept(room: &[u8], byte: u8) {
     }
 }
 
-// One more byte of a checksum.
-fn summed(sum: u16, byte: u8) -> u16 {
-    ((sum as u32 * 257 + byte as u32) % 65521) as u16
-}
-
-fn checksum(bytes: &[u8]) -> u16 {
-    let mut sum = 1;
-    let mut i = 0;
-    while i < bytes.len() {
-        sum = summed(sum, bytes[i]);
-        i += 1;
-    }
-    sum
-}
-
 // The answer, and what was left in the room, whose first bytes are the place.
 fn print_answer(answer: Written, room: &[u8], byte: u8) {
     match answer {
@@ -73,7 +59,7 @@ fn print_answer(answer: Written, room: &[u8], byte: u8) {
             let size = room.len();
             let written = value(room, Span { start: 0, size: n });
             print_number(b"wrote ", n);
-            print_number(b" sum ", checksum(written) as usize);
+            print_number(b" sum ", checksum(written, false) as usize);
             print_kept(value(room, Span { start: n, size }), byte);
             io::write_all(STDOUT_FILENO, b" ");
             print_reading(read(written));
@@ -122,13 +108,17 @@ fn print_row(row: &[u8]) {
     }
 }
 
+fn print_argument(i: usize) {
+    let mut row = io::large_buffer();
+    let got = read_argument(i, &mut row);
+    print_row(&row[..got]);
+}
+
 fn main() {
     let count = os::arg_count();
     let mut i = 1;
     while i < count {
-        let mut row = io::large_buffer();
-        let got = read_row(i, &mut row);
-        print_row(&row[..got]);
+        print_argument(i);
         i += 1;
     }
 }

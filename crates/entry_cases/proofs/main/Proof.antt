@@ -16,23 +16,8 @@ arg-count-requires c κs = search needs
 loop-holds : tie.Need-loop-holds Inv-loop μ-loop
 loop-holds c = search needs
 
-large-buffer-requires : tie.Need-large-buffer-requires Inv-loop μ-loop
-large-buffer-requires c κs = search needs
-
-slice-aggregate-read-row : tie.Need-slice-aggregate-read-row Inv-loop μ-loop
-slice-aggregate-read-row c = search needs
-
-read-row-requires : tie.Need-read-row-requires Inv-loop μ-loop
-read-row-requires c κs = search needs
-
-array-share-prefix-row : tie.Need-array-share-prefix-row Inv-loop μ-loop
-array-share-prefix-row c = search needs
-
-slice-aggregate-print-row : tie.Need-slice-aggregate-print-row Inv-loop μ-loop
-slice-aggregate-print-row c = search needs
-
-print-row-requires : tie.Need-print-row-requires Inv-loop μ-loop
-print-row-requires c κs = search needs
+print-argument-requires : tie.Need-print-argument-requires Inv-loop μ-loop
+print-argument-requires c κs = search needs
 
 add-i : tie.Need-add-i Inv-loop μ-loop
 add-i c = search needs
@@ -54,12 +39,7 @@ main-spec =
     μ-loop
     arg-count-requires
     loop-holds
-    large-buffer-requires
-    slice-aggregate-read-row
-    read-row-requires
-    array-share-prefix-row
-    slice-aggregate-print-row
-    print-row-requires
+    print-argument-requires
     add-i
     loop-less
     loop-again

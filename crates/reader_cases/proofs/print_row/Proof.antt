@@ -17,11 +17,8 @@ loop-holds c = search needs
 bytes-at-requires : tie.Need-bytes-at-requires Inv-loop μ-loop
 bytes-at-requires c κs = search needs
 
-read-requires : tie.Need-read-requires Inv-loop μ-loop
-read-requires c κs = search needs
-
-print-reading-requires : tie.Need-print-reading-requires Inv-loop μ-loop
-print-reading-requires c κs = search needs
+print-case-requires : tie.Need-print-case-requires Inv-loop μ-loop
+print-case-requires c κs = search needs
 
 next-place-requires : tie.Need-next-place-requires Inv-loop μ-loop
 next-place-requires c κs = search needs
@@ -43,8 +40,7 @@ print-row-spec =
     μ-loop
     loop-holds
     bytes-at-requires
-    read-requires
-    print-reading-requires
+    print-case-requires
     next-place-requires
     loop-less
     loop-again

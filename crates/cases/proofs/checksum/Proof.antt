@@ -2,14 +2,14 @@
 use borrow.Author.Needs.{needs}
 use Prim.Native.Nat.{_-_}
 use lib.ListN.{length}
-use Rattle.entry_cases.proofs.checksum.Statement.{statement}
-use Rattle.entry_cases.proofs.checksum.Tie as tie
+use Rattle.cases.proofs.checksum.Statement.{statement}
+use Rattle.cases.proofs.checksum.Tie as tie
 
 abbrev Inv-loop : tie.InvT-loop
-Inv-loop bytes sum₀ i₀ sum i = Unit {0}
+Inv-loop bytes wide sum₀ i₀ sum i = Unit {0}
 
 abbrev μ-loop : tie.MeasureT-loop
-μ-loop bytes sum₀ i₀ sum i = length bytes - i
+μ-loop bytes wide sum₀ i₀ sum i = length bytes - i
 
 loop-holds : tie.Need-loop-holds Inv-loop μ-loop
 loop-holds c = search needs
