@@ -145,7 +145,7 @@ pub fn run(seed: u64, count: u64, other: &Other) -> io::Result<bool> {
                 return Ok(false);
             }
             inputs += 1;
-            entries += 2 + theirs.entries.map_or(0, |entries| entries.len());
+            entries += theirs.count();
         }
         counts.add(&answers);
     }

@@ -62,6 +62,11 @@ fn entry_difference(one: &[Answer], two: &[Answer]) -> Option<Difference> {
 }
 
 impl Answers {
+    /// How many answers there are: three texts, and the entries that are offered.
+    pub fn count(&self) -> usize {
+        3 + self.entries.as_ref().map_or(0, Vec::len)
+    }
+
     /// The first answer that isn't the other's.
     pub fn difference(&self, other: &Answers) -> Option<Difference> {
         let texts = text_difference(&self.plan_text, &other.plan_text)
