@@ -1,9 +1,8 @@
 """The deployment file, read by the requirements alone: nothing here is shared with the Rattle sources.
 
-The case makers import this: pieces of files, a reading that gives the line which the case programs print, and the rows of cases. The picture
-imports it for what a file has.
+`show_text.py` and `streams_test` import this for a reading that gives the line of a file, its refusal or where its values stand, and for pieces
+of files; the picture for what a file has.
 """
-import os
 
 
 def number(b):
@@ -16,10 +15,6 @@ def field(tag, value, size=None):
 
 def rule(n, action=1):
     return bytes([action, 0, 255]) + n.to_bytes(4, "big") + b"\xff" * 4 + b"\0\0\xff\xff" + b"\0" * 4 + b"\xff" * 4 + b"\0\0\xff\xff"
-
-
-def numbers(*ns):
-    return b"".join(n.to_bytes(2, "big") for n in ns)
 
 
 def occurs(keep, policy):
@@ -125,18 +120,3 @@ def contents(f):
     taken["rules"] = [f[30 * k + 3:30 * k + 30] for k in range(int(words[1]))]
     taken["script"] = None if values["script"] is None else (values["script"][0], commands(values["script"]))
     return taken
-
-
-def make(folder, rows, line):
-    """Writes data/, args and stdout: a row is a two-byte length and that many bytes, again and again; `line` gives a case's line."""
-    os.makedirs(os.path.join(folder, "data"), exist_ok=True)
-    lines = []
-    for name, cases in rows.items():
-        with open(os.path.join(folder, "data", name), "wb") as out:
-            for case in cases:
-                out.write(len(case).to_bytes(2, "big") + case)
-        lines += [name] + [line(case) for case in cases]
-    with open(os.path.join(folder, "stdout"), "w") as out:
-        out.write("\n".join(lines) + "\n")
-    with open(os.path.join(folder, "args"), "w") as out:
-        out.write("\n".join(rows) + "\n")

@@ -1,56 +1,61 @@
-//! Cases for the program `entry_cases`: rows of cases in `data`, their names in
-//! `args`, and in `stdout` what the program must print.
+//! Cases for the programs `reader_cases`, `writer_cases` and `entry_cases`: rows of
+//! cases in `data`, their names in `args`, and in `stdout` what the program must print.
 //!
-//! A row is a two-byte length and a case, again and again. A case: whether it is
-//! about a file (0) or field values (1), whether there is a keep list, whether
-//! there is a script; two bytes for the room lent for output; the flow; then its
+//! A case of the reader is a file; `writer` says what one of the writer is. One of
+//! the entries is numbers of two bytes: whether it is about a file (0) or field
+//! values (1), whether there is a keep list, whether there is a script, the room
+//! lent for output, and the flow, whose addresses have two numbers each; then its
 //! parts, themselves a row: the file; or the rules, both policies, the keep list
 //! and the script; and last flows, as the entries take many at once.
 
+mod base;
 mod case;
 mod expected;
 mod faults;
 mod given;
 mod groups;
 mod made;
+mod reader;
+mod row;
 mod scripts;
+mod writer;
 
-use case::{add_part, Case};
+use row::{rows, Group};
 use std::fs;
 use std::io;
 use std::path::Path;
 
-/// The program reads no more of a row.
-const MOST_IN_ROW: usize = 65536;
-
-/// Rows of a group with their texts, each row as long as the program reads it.
-fn rows(cases: &[Case]) -> Vec<(Vec<u8>, String)> {
-    let mut rows = vec![(Vec::new(), String::new())];
-    for case in cases {
-        let bytes = case.bytes();
-        if rows.last().is_some_and(|(row, _)| row.len() + 2 + bytes.len() > MOST_IN_ROW) {
-            rows.push((Vec::new(), String::new()));
-        }
-        let (row, text) = rows.last_mut().expect("a row");
-        add_part(row, &bytes);
-        text.push_str(&expected::text(case));
+/// The groups of cases of a program.
+fn groups_of(program: &str) -> Option<Vec<Group>> {
+    match program {
+        "reader_cases" => Some(reader::all()),
+        "writer_cases" => Some(writer::all()),
+        "entry_cases" => Some(groups::all()),
+        _ => None,
     }
-    rows
 }
 
-/// Writes the cases and the text expected of them into a folder.
+/// Writes the cases of the program whose folder this is, and the text expected of them, in place of those that are there.
 pub fn run(folder: &Path) -> io::Result<bool> {
+    let program = folder.file_name().and_then(|name| name.to_str()).unwrap_or_default();
+    let Some(groups) = groups_of(program) else {
+        eprintln!("there are no cases of a program {program:?}");
+        return Ok(false);
+    };
     let data = folder.join("data");
+    if data.exists() {
+        fs::remove_dir_all(&data)?;
+    }
     fs::create_dir_all(&data)?;
     let (mut args, mut stdout, mut count) = (String::new(), String::new(), 0);
-    for (group, cases) in groups::all() {
+    for (group, cases) in groups {
         count += cases.len();
-        for (number, (row, text)) in rows(&cases).into_iter().enumerate() {
+        for (number, row) in rows(&cases).into_iter().enumerate() {
             let name = format!("{group}{number:02}\n");
-            fs::write(data.join(name.trim_end()), row)?;
+            fs::write(data.join(name.trim_end()), row.bytes)?;
             args.push_str(&name);
             stdout.push_str(&name);
-            stdout.push_str(&text);
+            stdout.push_str(&row.text);
         }
     }
     fs::write(folder.join("args"), args)?;
@@ -68,10 +73,36 @@ mod tests {
         text.lines().filter(|line| *line == words || line.starts_with(&format!("{words} "))).count()
     }
 
+    fn text_of(groups: Vec<Group>) -> String {
+        groups.into_iter().flat_map(|(_, cases)| cases).map(|case| case.text).collect()
+    }
+
+    fn expect_lines(text: &str, wanted: &[String]) {
+        for words in wanted {
+            assert!(lines_with(text, words) > 0, "no line {words}");
+        }
+    }
+
+    #[test]
+    fn every_refusal_of_the_reader_occurs() {
+        let mut wanted: Vec<String> = (1..=11).map(|number| format!("refused {number} at")).collect();
+        wanted.push("rules 5 initial".into());
+        expect_lines(&text_of(reader::all()), &wanted);
+    }
+
+    #[test]
+    fn every_refusal_of_the_writer_occurs_and_nothing_else_is_written() {
+        let mut wanted = [4, 5, 6, 7, 8, 9, 10, 11].map(|number| format!("refused {number} at 0 kept")).to_vec();
+        wanted.extend([6, 44045].map(|needed| format!("refused 13 at {needed} kept")));
+        wanted.extend([6, 44045].map(|written| format!("wrote {written} sum")));
+        let text = text_of(writer::all());
+        expect_lines(&text, &wanted);
+        assert!(text.lines().all(|line| line.contains(" kept")));
+    }
+
     #[test]
     fn every_outcome_of_every_entry_occurs() {
-        let cases = groups::all().into_iter().flat_map(|(_, cases)| cases);
-        let text: String = cases.map(|case| expected::text(&case)).collect();
+        let text = text_of(groups::all());
         let refused = |entry, numbers: &[u8]| -> Vec<String> {
             numbers.iter().map(|number| format!("{entry} refused {number}")).collect()
         };
@@ -95,15 +126,6 @@ mod tests {
         );
         wanted.extend(["replay ended", "plan 1 kept", "plan 2 kept"].map(String::from));
         wanted.extend(["flows by initial bytes", "flows by target bytes"].map(String::from));
-        for words in wanted {
-            assert!(lines_with(&text, &words) > 0, "no line {words}");
-        }
-    }
-
-    #[test]
-    fn rows_hold_no_more_than_is_read() {
-        for (_, cases) in groups::all() {
-            assert!(rows(&cases).iter().all(|(row, _)| row.len() <= MOST_IN_ROW));
-        }
+        expect_lines(&text, &wanted);
     }
 }

@@ -5,8 +5,9 @@ ghost use Prim.Native.Nat.{_≤_, _-_};
 ghost use lib.ListN.{length};
 ghost use Rattle.io.specs.Counts.{Counts};
 use deployment::Refusal;
-use deployment::two;
+use format::two;
 use libc::STDOUT_FILENO;
+use numbers::why_number;
 use reader::FileRead;
 use reader::Span;
 use reader::file::value;
@@ -101,7 +102,7 @@ pub fn print_number(word: &[u8], n: usize) {
 
 pub fn print_refusal(refusal: Refusal) {
     let why = refusal.why;
-    print_number(b"refused ", why.number() as usize);
+    print_number(b"refused ", why_number(why) as usize);
     print_number(b" at ", refusal.at);
 }
 

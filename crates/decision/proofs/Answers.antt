@@ -1,4 +1,4 @@
--- Any two answers that a contract allows are equal: of `decided`, of `hit`, of `action`. Assumes nothing.
+-- Any two answers that a contract allows are equal: of `decided`, of `hit` and of `action`. Assumes nothing.
 use mathlib.Core.Path.{_≡_, sym, _∙_}
 use mathlib.Core.Bool.{Bool}
 use Rattle.policy.specs.declared.Action.{Action}

@@ -7,11 +7,12 @@ ghost use Rattle.policy.specs.Rule.{hits, says, matches, lies};
 ghost use Rattle.policy.specs.Policy.{decide, matching};
 ghost use Rattle.deployment.specs.Values.{numbersOf, ruleOf, rangeAt};
 ghost use Rattle.deployment.specs.Catalogue.{catalogueOf};
-use deployment::RULE_BYTES;
-use deployment::four;
-use deployment::listed;
-use deployment::number_at;
-use deployment::two;
+use format::RULE_BYTES;
+use format::four_at;
+use format::listed;
+use format::number_at;
+use format::record_at;
+use format::two_at;
 use policy::Action;
 use policy::Decision;
 use policy::Flow;
@@ -28,15 +29,14 @@ fn lies_two(rule: &[u8], at: usize, n: u16) -> bool
     requires { ⌜ at + 4 ≤ length (now rule) ⌝ }
     ensures { λ r. ⌜ r ≡ lies n (rangeAt at 2 (now (rule .entry))) ⌝ }
 {
-    two(rule[at], rule[at + 1]) <= n && n <= two(rule[at + 2], rule[at + 3])
+    two_at(rule, at) <= n && n <= two_at(rule, at + 2)
 }
 
 fn lies_four(rule: &[u8], at: usize, n: u32) -> bool
     requires { ⌜ at + 8 ≤ length (now rule) ⌝ }
     ensures { λ r. ⌜ r ≡ lies n (rangeAt at 4 (now (rule .entry))) ⌝ }
 {
-    four(rule[at], rule[at + 1], rule[at + 2], rule[at + 3]) <= n
-        && n <= four(rule[at + 4], rule[at + 5], rule[at + 6], rule[at + 7])
+    four_at(rule, at) <= n && n <= four_at(rule, at + 4)
 }
 
 // "It matches a flow when each number lies in its range": left at the first that does not.
@@ -63,23 +63,22 @@ fn record_matches(rule: &[u8], flow: Flow) -> bool
 fn hit(rules: &[u8], skip: u8, n: usize, flow: Flow) -> bool
     ensures { λ r. ⌜ r ≡ hits (catalogueOf skip (now (rules .entry))) flow n ⌝ }
 {
-    let step = skip as usize + RULE_BYTES;
-    if rules.len() / step <= n {
+    let rule = record_at(rules, skip, n);
+    if rule.len() != RULE_BYTES {
         return false;
     }
-    let at = n * step + skip as usize;
-    record_matches(&rules[at..at + RULE_BYTES], flow)
+    record_matches(rule, flow)
 }
 
 // What rule `n` of the catalogue says; a number outside it permits nothing.
 fn action(rules: &[u8], skip: u8, n: usize) -> Action
     ensures { λ r. ⌜ r ≡ says (catalogueOf skip (now (rules .entry))) n ⌝ }
 {
-    let step = skip as usize + RULE_BYTES;
-    if rules.len() / step <= n {
+    let rule = record_at(rules, skip, n);
+    if rule.len() != RULE_BYTES {
         return Action::Deny;
     }
-    if rules[n * step + skip as usize] == 1 {
+    if rule[0] == 1 {
         Action::Permit
     } else {
         Action::Deny

@@ -12,5 +12,5 @@ pub mod LongFiles
 pub mod RefusedValues
 pub mod FieldValues
 pub mod Storing
+pub mod Lent
 pub mod Flows
-pub mod Answers

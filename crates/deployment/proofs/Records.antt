@@ -1,20 +1,22 @@
 -- Parts by their elements; the n-th of pieces of one width, of a list value's numbers and of a catalogue's rules, each by the bytes that it
 -- is read from. The n-th piece is the part that starts at n widths. Assumes nothing.
 use Prim.Native.Nat.{ℕ, zero, suc, _+_, _-_, _*_, _/_, _≤_, _<_}
-use native.Mathlib.Nat.{zero-add, suc-add, add-zero, add-suc, zero-mul, suc-mul, add-comm, mul-comm}
+use native.Mathlib.Nat.{zero-add, suc-add, add-zero, add-suc, add-assoc, zero-mul, suc-mul, add-comm, mul-comm}
 use native.Mathlib.Nat.{add-sub-cancel-left, div-zero, le-div-iff-mul-le}
 use native.Mathlib.Omega.{arith}
 use mathlib.Core.Path.{_≡_, refl, sym, _∙_, ap}
 use mathlib.Core.Bool.{false}
 use mathlib.Core.List.{List, [], _∷_, map, map-map}
 use mathlib.Core.Option.{none}
-use borrow.Author.Tests.{lt-ltb, le-ltb}
+use borrow.Author.Tests.{ltb-true, ltb-false, lt-ltb, le-ltb, le-leb, lt-leb}
 use lib.ListN.{length, take, drop, getD, length-drop, length-map, List·getD-map, List·getD-eq-default}
-use lib.Seq.{take-all, drop-cons, drop-drop, take-nil, getD-take, getD-drop}
+use lib.Seq.{take-all, drop-cons, drop-drop, take-nil, drop-nil, getD-take, getD-drop}
 use Rattle.policy.specs.Rule.{Rule, matches, hits, says}
 use Rattle.policy.specs.declared.Action.the-variants.{Deny}
 use Rattle.policy.specs.declared.Flow.{Flow}
-use Rattle.deployment.specs.Bytes.{numberFrom, number, part, chunks}
+use lib.Dec.{ltb}
+use Rattle.policy.proofs.Tests.{byTest}
+use Rattle.deployment.specs.Bytes.{numberFrom, number, part, numberAt, chunks}
 use Rattle.deployment.specs.Values.{rule-bytes, actionOf, ruleOf, numbersOf, commandFrom, codedOf}
 use Rattle.deployment.specs.Commands.{commandCount, commandAt}
 use Rattle.deployment.specs.Catalogue.{recordCount, recordsOf, catalogueOf}
@@ -51,14 +53,31 @@ part-between start size l = rw add-sub-cancel-left
 pub part-to-end : (start : ℕ) (l : List ℕ) → take (length l - start) (drop start l) ≡ drop start l
 part-to-end start l = take-all (length l - start) (drop start l) (omega (arith, length-drop start l))
 
+-- the number of bytes that all stand there, and of some that don't
+pub number-there : (start width : ℕ) (l : List ℕ) → start + width ≤ length l → numberAt start width l ≡ number (part start width l)
+unfolding numberAt
+number-there start width l h = rw (le-leb (start + width) (length l) h)
+
+pub number-missing : (start width : ℕ) (l : List ℕ) → length l < start + width → numberAt start width l ≡ 0
+unfolding numberAt
+number-missing start width l h = rw (lt-leb (start + width) (length l) h)
+
+-- the number of two bytes that stand there
+pub number-two : (start : ℕ) (l : List ℕ) → start + 2 ≤ length l
+    → numberAt start 2 l ≡ number (getD l start 0 ∷ getD l (start + 1) 0 ∷ [])
+number-two start l h = number-there start 2 l h ∙ ap number (part-elements start 1 l h)
+
 -- the number of one byte is that byte
 pub number-one : (b : ℕ) → b ≡ number (b ∷ [])
 unfolding number numberFrom
 number-one b = omega arith
 
--- the number of the first byte
+-- the number of a byte at a place, and of the first byte
+pub number-byte : (start : ℕ) (l : List ℕ) → start < length l → number (part start 1 l) ≡ getD l start 0
+number-byte start l h = ap number (part-elements start 0 l (omega arith)) ∙ sym (number-one (getD l start 0))
+
 pub first-byte : (l : List ℕ) → 1 ≤ length l → number (part 0 1 l) ≡ getD l 0 0
-first-byte l h = ap number (part-elements 0 0 l (omega arith)) ∙ sym (number-one (getD l 0 0))
+first-byte l h = number-byte 0 l (omega arith)
 
 -- a part of a part
 pub drop-take {ℓ} : {A : Type ℓ} (m n : ℕ) (l : List A) → drop m (take (m + n) l) ≡ take n (drop m l)
@@ -100,11 +119,7 @@ number-past value k h = List·getD-eq-default (numbersOf value) 0 (rw numbers-le
 pub command-at : (value : List ℕ) (k : ℕ) → k < commandCount value
     → commandAt value k
     ≡ commandFrom (getD value 0 0)
-    (record {
-      code = getD value (1 + 5 * k) 0;
-      one = number (getD value (1 + 5 * k + 1) 0 ∷ getD value (1 + 5 * k + 2) 0 ∷ []);
-      two = number (getD value (1 + 5 * k + 3) 0 ∷ getD value (1 + 5 * k + 4) 0 ∷ []);
-    })
+    (record { code = getD value (1 + 5 * k) 0; one = numberAt (1 + 5 * k + 1) 2 value; two = numberAt (1 + 5 * k + 3) 2 value })
 unfolding commandAt commandCount codedOf part
 command-at value k h =
     rw (
@@ -112,6 +127,10 @@ command-at value k h =
       first-byte value (omega arith),
       part-elements (1 + 5 * k) 4 value (omega arith),
       ← number-one (getD value (1 + 5 * k) 0),
+      number-two (1 + 5 * k + 1) value (omega arith),
+      number-two (1 + 5 * k + 3) value (omega arith),
+      add-assoc (1 + 5 * k) 1 1,
+      add-assoc (1 + 5 * k) 3 1,
     )
 
 pub command-past : (value : List ℕ) (k : ℕ) → commandCount value ≤ k → commandAt value k ≡ none
@@ -167,6 +186,38 @@ module _ (skip : ℕ) (bytes : List ℕ) where
         drop-drop,
       )
 
+  -- the record itself, and nothing past the last
+  pub record-there : (n : ℕ) → n < recordCount skip bytes → getD (recordsOf skip bytes) n [] ≡ recordAt skip n bytes
+  unfolding recordsOf part
+  record-there n h =
+      ap (getD (recordsOf skip bytes) n) (sym (drop-nil skip))
+      ∙ rw (read-at (drop skip) (skip + rule-bytes) (recordCount skip bytes) bytes n h, drop-take, drop-drop)
+
+  pub record-past : (n : ℕ) → recordCount skip bytes ≤ n → getD (recordsOf skip bytes) n [] ≡ []
+  unfolding recordsOf
+  record-past n h =
+      List·getD-eq-default (recordsOf skip bytes) []
+      (rw (length-map (chunks (skip + rule-bytes) (recordCount skip bytes) bytes) (drop skip), length-chunks) h)
+
+  -- a record is whole where there is one
+  pub record-whole : (n : ℕ) → n < recordCount skip bytes → length (recordAt skip n bytes) ≡ rule-bytes
+  unfolding recordCount
+  record-whole n h =
+      length-part (n * (skip + rule-bytes) + skip) rule-bytes bytes
+      (omega (arith, piece-fits (skip + rule-bytes) (length bytes) n h))
+
+  pub record-inside : (n : ℕ) → length (getD (recordsOf skip bytes) n []) ≡ rule-bytes → n < recordCount skip bytes
+  record-inside n whole =
+      byTest (ltb n (recordCount skip bytes))
+      (λ t. ltb-true n (recordCount skip bytes) t)
+      (λ f. absurd (omega (arith, sym (ap length (record-past n (ltb-false n (recordCount skip bytes) f))) ∙ whole)))
+
+  pub record-outside : (n : ℕ) → ¬ (length (getD (recordsOf skip bytes) n []) ≡ rule-bytes) → recordCount skip bytes ≤ n
+  record-outside n broken =
+      byTest (ltb n (recordCount skip bytes))
+      (λ t. let h = ltb-true n (recordCount skip bytes) t in absurd (broken (ap length (record-there n h) ∙ record-whole n h)))
+      (λ f. ltb-false n (recordCount skip bytes) f)
+
   pub hits-record : (flow : Flow) (n : ℕ) → n < recordCount skip bytes
       → hits (catalogueOf skip bytes) flow n ≡ matches (ruleOf (recordAt skip n bytes)) flow
   hits-record flow n h =
@@ -181,17 +232,9 @@ module _ (skip : ℕ) (bytes : List ℕ) where
 
   -- its action is in its first byte
   pub says-byte : (n : ℕ) → n < recordCount skip bytes
-      → says (catalogueOf skip bytes) n ≡ actionOf (getD bytes (n * (skip + rule-bytes) + skip) 0)
-  unfolding recordCount ruleOf
-  says-byte n h =
-      let start = n * (skip + rule-bytes) + skip in
-      let whole : length (recordAt skip n bytes) ≡ rule-bytes =
-      length-part start rule-bytes bytes (omega (arith, piece-fits (skip + rule-bytes) (length bytes) n h)) in
-      let first : number (part 0 1 (recordAt skip n bytes)) ≡ getD bytes start 0 =
-      first-byte (recordAt skip n bytes) (omega arith)
-      ∙ part-at start rule-bytes bytes 0 (omega arith)
-      ∙ ap (λ (i : ℕ). getD bytes i 0) (add-zero start) in
-      says-record n h ∙ ap actionOf first
+      → says (catalogueOf skip bytes) n ≡ actionOf (getD (recordAt skip n bytes) 0 0)
+  unfolding ruleOf
+  says-byte n h = says-record n h ∙ ap actionOf (first-byte (recordAt skip n bytes) (omega (arith, record-whole n h)))
 
   pub hits-outside : (flow : Flow) (n : ℕ) → recordCount skip bytes ≤ n → hits (catalogueOf skip bytes) flow n ≡ false
   hits-outside flow n h = hits-past (catalogueOf skip bytes) flow n (rw catalogue-length h)

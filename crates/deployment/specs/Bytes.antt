@@ -1,7 +1,9 @@
 -- 01, "The deployment file": numbers as bytes, and parts of bytes. Assumes nothing.
 use Prim.Native.Nat.{ℕ, zero, suc, _+_, _*_, _/_, _%_}
 use mathlib.Core.List.{List, [], _∷_, _++_}
-use lib.ListN.{take, drop}
+use mathlib.Core.Bool.{cond}
+use lib.ListN.{length, take, drop}
+use lib.Dec.{leb}
 
 -- "All numbers are big-endian."
 unfoldable pub numberFrom : ℕ → List ℕ → ℕ
@@ -18,6 +20,10 @@ bytesOf (suc width) n = bytesOf width (n / 256) ++ (n % 256 ∷ [])
 -- the bytes from a start on, as many as are asked for
 unfoldable pub part : ℕ → ℕ → List ℕ → List ℕ
 part start size bytes = take size (drop start bytes)
+
+-- the number of so many bytes from a start on; 0 where they don't all stand there
+unfoldable pub numberAt : ℕ → ℕ → List ℕ → ℕ
+numberAt start width bytes = cond (leb (start + width) (length bytes)) (number (part start width bytes)) 0
 
 -- values that stand one after another, all of one width: the first `count` of them
 unfoldable pub chunks : ℕ → ℕ → List ℕ → List (List ℕ)

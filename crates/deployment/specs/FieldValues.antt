@@ -1,5 +1,5 @@
 -- 01, "Turned away": entries that take lists take field values; what callers lend, and what is written there. Assumes nothing.
-use Prim.Native.Nat.{ℕ, _+_, _*_, _/_, _%_}
+use Prim.Native.Nat.{ℕ, _+_, _*_, _/_, _%_, _<_}
 use mathlib.Core.Path.{_≡_}
 use mathlib.Core.Bool.{Bool, true, false, cond}
 use mathlib.Core.List.{List, [], _∷_, _++_}
@@ -73,43 +73,66 @@ valuesRead v = do
   script ← scriptValue (v .script)
   good (record { catalogue = catalogue; initial = initial; target = target; keep = keep; script = script })
 
--- "all at position 0"
+-- what an entry answers to what is read of a file or of field values: for the contents, or the refusal
+abbrev pub answered : {A : Type 0} → (Contents → A) → (Refusal → A) → Reading → A
+answered for turned (accepted contents) = for contents
+answered for turned (refused refusal) = turned refusal
+
+-- what an entry answers to values that are tested, "all at position 0"
+abbrev pub answeredAtZero : {A B : Type 0} → (A → B) → (Refusal → B) → Checked A → B
+answeredAtZero for turned (good a) = for a
+answeredAtZero for turned (bad why) = turned (record { why = why; at = 0 })
+
 unfoldable pub atZero : Checked Contents → Reading
-atZero (good contents) = accepted contents
-atZero (bad why) = refused (record { why = why; at = 0 })
+atZero read = answeredAtZero accepted refused read
 
 unfoldable pub readValues : FieldValues → Reading
 readValues v = atZero (valuesRead v)
+
+-- an answer, and every byte of the lent place then
+pub record Left (A : Type 0) : Type 0 where
+  pub answer : A
+  pub place : List ℕ
+
+abbrev pub leftBy : {A : Type 0} → A → List ℕ → Left A
+leftBy answer place = record { answer = answer; place = place }
+
+-- "When turned away, every lent place keeps its bytes"
+abbrev pub leftAlone : {A : Type 0} → (Refusal → A) → List ℕ → Refusal → Left A
+leftAlone turned place refusal = leftBy (turned refusal) place
 
 -- "on success the output fills the first bytes and the rest keep theirs"
 unfoldable pub filled : List ℕ → List ℕ → List ℕ
 filled place output = output ++ drop (length output) place
 
--- the numbers of a refusal to write; none where bytes were written
-unfoldable pub writtenNumbers : Written → List ℕ
-writtenNumbers (Bytes count) = []
-writtenNumbers (Turned refusal) = refusalNumbers refusal
-
--- what an entry that writes leaves: how many bytes it wrote, or the refusal; and every byte of the place
-pub record Writing : Type 0 where
-  pub answer : Written
-  pub place : List ℕ
-
-abbrev pub leftBy : Written → List ℕ → Writing
-leftBy answer place = record { answer = answer; place = place }
+-- "and last 13": "lent room smaller than what is to be written", at the bytes needed
+abbrev pub sent : {A : Type 0} → (Refusal → A) → A → List ℕ → List ℕ → Left A
+sent turned done output place =
+    cond (leb (length output) (length place))
+    (leftBy done (filled place output))
+    (leftAlone turned place (record { why = Room; at = length output }))
 
 -- bytes stored from a position on, and the position behind them
 pub record Stored (before : List ℕ) (at : ℕ) (bytes after : List ℕ) (next : ℕ) : Type 0 where
   pub place : after ≡ sets before at bytes
   pub end : next ≡ at + length bytes
 
--- "When turned away, every lent place keeps its bytes"
-unfoldable pub unwritten : Refusal → List ℕ → Writing
-unwritten refusal place = record { answer = Turned refusal; place = place }
+-- what an entry that writes and answers no more than how many bytes leaves
+abbrev pub Writing : Type 0
+Writing = Left Written
 
--- "and last 13": "lent room smaller than what is to be written", at the bytes needed
+unfoldable pub unwritten : Refusal → List ℕ → Writing
+unwritten refusal place = leftAlone Turned place refusal
+
 unfoldable pub writing : List ℕ → List ℕ → Writing
-writing output place =
-    cond (leb (length output) (length place))
-    (record { answer = Bytes (length output); place = filled place output })
-    (unwritten (record { why = Room; at = length output }) place)
+writing output place = sent Turned (Bytes (length output)) output place
+
+-- the numbers of a refusal to write; none where bytes were written
+unfoldable pub writtenNumbers : Written → List ℕ
+writtenNumbers (Bytes count) = []
+writtenNumbers (Turned refusal) = refusalNumbers refusal
+
+-- 13 is for room alone: contents are accepted, and the place is smaller than what is to be written for them
+abbrev pub TooSmall : (Contents → List ℕ) → Reading → List ℕ → ℕ → Type 0
+TooSmall output reading place at =
+    (c : Contents) × (reading ≡ accepted c) × (length place < length (output c)) × (at ≡ length (output c))

@@ -4,39 +4,32 @@
 use mathlib.Core.Path.{_≡_, refl, sym, _∙_, ap}
 use Prim.Native.Nat.{ℕ, _<_}
 use mathlib.Core.List.{List}
-use lib.Dec.{leb}
 use lib.ListN.{length}
 use denote.Ref.{now}
 use Rattle.policy.specs.Replay.{Replayed, ended, broken}
-use Rattle.policy.proofs.Tests.{byTest}
 use Rattle.deployment.specs.Checked.{Checked, good, bad}
 use Rattle.deployment.specs.Values.{numbersBytes}
 use Rattle.deployment.specs.File.{Reading, accepted, refused, readFile, readToJudge}
-use Rattle.deployment.specs.FieldValues.{Writing, unwritten, writing}
-use Rattle.deployment.specs.FieldValues.{leftBy as written-by}
+use Rattle.deployment.specs.FieldValues.{Left, leftBy, Writing}
 use Rattle.deployment.specs.Properties.{AreBytes}
 use Rattle.deployment.specs.declared.Refusal.{Refusal}
 use Rattle.deployment.specs.declared.Written.{Written}
 use Rattle.deployment.specs.declared.Written.the-variants.{Bytes, Turned}
-use Rattle.entries.specs.Claims.{flow-count, flowAt, decisionAt}
+use Rattle.deployment.proofs.Lent.{same-left, sent-cases}
+use Rattle.flows.specs.Claims.{flow-count, flowAt, decisionAt}
+use Rattle.last_list.specs.Last.{replayLeft, replayedAtZero}
+use Rattle.last_list.specs.declared.Ran.{Ran}
+use Rattle.last_list.specs.declared.Ran.the-variants as ran
 use Rattle.entries.specs.Answers.{
   decidedReading,
   decidedValues,
   decidedAtZero,
-  Left,
-  leftBy,
-  ranTo,
-  listLeft,
-  replayLeft,
   replayedContents,
   replayedReading,
   replayedValues,
-  replayedAtZero,
 }
 use Rattle.entries.specs.declared.Decided.{Decided}
 use Rattle.entries.specs.declared.Decided.the-variants as decided
-use Rattle.entries.specs.declared.Ran.{Ran}
-use Rattle.entries.specs.declared.Ran.the-variants as ran
 use Rattle.entries.proofs.files.decide.Reads as decide-file
 use Rattle.entries.proofs.Claims.{file-flows-decided, values-flows-decided, file-flows-keep-rest, values-flows-keep-rest}
 use Rattle.entries.proofs.files.decide_flows.Reads as flows-file
@@ -45,36 +38,27 @@ use Rattle.entries.proofs.lists.decide.Reads as decide-lists
 use Rattle.entries.proofs.lists.decide_flows.Reads as flows-lists
 use Rattle.entries.proofs.lists.replay.Reads as replay-lists
 
--- what is left says both the answer and the place
-same-left : (r s : Ran) (p q : List ℕ) → leftBy r p ≡ leftBy s q → (r ≡ s) × (p ≡ q)
-unfolding leftBy
-same-left r s p q e = (ap (λ (l : Left). l .answer) e, ap (λ (l : Left). l .place) e)
-
 pub one-decision-of-a-file : (κ : _) (a : _) (r s : Decided) (e f : _) → decide-file.Post κ a r e → decide-file.Post κ a s f → r ≡ s
 one-decision-of-a-file κ a r s e f p q = p ∙ sym q
 
 pub one-decision-of-lists : (κ : _) (a : _) (r s : Decided) (e f : _) → decide-lists.Post κ a r e → decide-lists.Post κ a s f → r ≡ s
 one-decision-of-lists κ a r s e f p q = p ∙ sym q
 
--- the same of what is written
-same-writing : {r s : Written} {p q : List ℕ} {w : Writing} → written-by r p ≡ w → written-by s q ≡ w → (r ≡ s) × (p ≡ q)
-same-writing one two = let same = one ∙ sym two in (ap (λ (w : Writing). w .answer) same, ap (λ (w : Writing). w .place) same)
-
 pub one-answer-to-flows-of-a-file : (κ : _) (a : _) (r s : Written) (e f : _) → flows-file.Post κ a r e → flows-file.Post κ a s f
     → (r ≡ s) × (now (e .1 .1 .1 .0) ≡ now (f .1 .1 .1 .0))
-one-answer-to-flows-of-a-file κ a r s e f p q = same-writing p q
+one-answer-to-flows-of-a-file κ a r s e f p q = same-left p q
 
 pub one-answer-to-flows-of-lists : (κ : _) (a : _) (r s : Written) (e f : _) → flows-lists.Post κ a r e → flows-lists.Post κ a s f
     → (r ≡ s) × (now (e .1 .1 .1 .0) ≡ now (f .1 .1 .1 .0))
-one-answer-to-flows-of-lists κ a r s e f p q = same-writing p q
+one-answer-to-flows-of-lists κ a r s e f p q = same-left p q
 
 pub one-replay-of-a-file : (κ : _) (a : _) (r s : Ran) (e f : _) → replay-file.Post κ a r e → replay-file.Post κ a s f
     → (r ≡ s) × (now (e .1 .0) ≡ now (f .1 .0))
-one-replay-of-a-file κ a r s e f p q = same-left r s _ _ (p ∙ sym q)
+one-replay-of-a-file κ a r s e f p q = same-left p q
 
 pub one-replay-of-lists : (κ : _) (a : _) (r s : Ran) (e f : _) → replay-lists.Post κ a r e → replay-lists.Post κ a s f
     → (r ≡ s) × (now (e .1 .1 .1 .0) ≡ now (f .1 .1 .1 .0))
-one-replay-of-lists κ a r s e f p q = same-left r s _ _ (p ∙ sym q)
+one-replay-of-lists κ a r s e f p q = same-left p q
 
 -- "When turned away, every lent place keeps its bytes", and so where a script breaks off.
 abbrev pub NothingWritten : Ran → Type 0
@@ -82,29 +66,29 @@ NothingWritten (ran.Ended n) = ⊥
 NothingWritten (ran.Broken fault step) = Unit {0}
 NothingWritten (ran.Turned refusal) = Unit {0}
 
-abbrev Keeps : Left → List ℕ → Type 0
-Keeps left place = NothingWritten (left .answer) → left .place ≡ place
+abbrev Keeps : List ℕ → Left Ran → Type 0
+Keeps place left = NothingWritten (left .answer) → left .place ≡ place
 
-replay-keeps : (r : Replayed) (place : List ℕ) → Keeps (replayLeft r place) place
-unfolding replayLeft listLeft leftBy ranTo writing unwritten
+replay-keeps : (r : Replayed) (place : List ℕ) → Keeps place (replayLeft place r)
+unfolding replayLeft
 replay-keeps (ended last) place =
-    byTest (leb (length (numbersBytes last)) (length place)) (λ room. rw room (λ written. absurd written)) (λ small. rw small (λ nothing. refl))
+    sent-cases ran.Turned (ran.Ended (length (numbersBytes last))) (numbersBytes last) place (Keeps place) (λ room written. absurd written)
+    (λ small nothing. refl)
 replay-keeps (broken fault step) place = λ nothing. refl
 
-reading-keeps : (reading : Reading) (place : List ℕ) → Keeps (replayedReading reading place) place
-unfolding replayedReading leftBy
+reading-keeps : (reading : Reading) (place : List ℕ) → Keeps place (replayedReading reading place)
+unfolding replayedReading
 reading-keeps (accepted c) place = replay-keeps (replayedContents c) place
 reading-keeps (refused refusal) place = λ nothing. refl
 
-values-keep : (read : Checked Replayed) (place : List ℕ) → Keeps (replayedAtZero read place) place
-unfolding replayedAtZero leftBy
+values-keep : (read : Checked Replayed) (place : List ℕ) → Keeps place (replayedAtZero read place)
+unfolding replayedAtZero
 values-keep (good r) place = replay-keeps r place
 values-keep (bad why) place = λ nothing. refl
 
 -- what holds of the definition's answer holds of one that equals it
-kept : (answer : Ran) (now : List ℕ) (left : Left) (place : List ℕ) → leftBy answer now ≡ left → Keeps left place
+kept : (answer : Ran) (now : List ℕ) (left : Left Ran) (place : List ℕ) → leftBy answer now ≡ left → Keeps place left
     → NothingWritten answer → now ≡ place
-unfolding leftBy
 kept answer now left place e keeps = rw (← e) at keeps
 
 pub a-file-that-gives-no-list-keeps-the-place : (κ : _) (a : _) (r : Ran) (e : _) → replay-file.Post κ a r e → NothingWritten r

@@ -17,42 +17,30 @@ use Rattle.deployment.specs.Values.{rule-bytes, ruleOf, numbersOf}
 use Rattle.deployment.specs.Catalogue.{recordCount, recordsOf, catalogueOf}
 use Rattle.deployment.specs.Contents.{ruleRead}
 use Rattle.deployment.specs.File.{readFile}
-use Rattle.deployment.specs.FieldValues.{rulesRead, catalogueValue, policyValue, Writing, leftBy, unwritten}
+use Rattle.deployment.specs.FieldValues.{rulesRead, catalogueValue, policyValue, leftBy, leftAlone, Writing}
 use Rattle.deployment.specs.declared.Why.{Why}
-use Rattle.deployment.specs.declared.Refusal.{Refusal}
 use Rattle.deployment.specs.declared.Written.the-variants.{Turned}
+use Rattle.deployment.proofs.Lent.{for-contents, turned-at-zero, for-passed}
 use Rattle.deployment.proofs.Tests.{Each, each-then, tested, rule-tested}
-use Rattle.reader.specs.Answers.{checking, valueAt, fileRead}
-use Rattle.reader.specs.declared.Checking.{Checking}
-use Rattle.reader.specs.declared.Checking.the-variants.{Good, Bad}
+use Rattle.catalogue.specs.Answers.{checking}
+use Rattle.reader.specs.Answers.{valueAt}
+use Rattle.catalogue.specs.declared.Checking.{Checking}
+use Rattle.catalogue.specs.declared.Checking.the-variants.{Good, Bad}
 use Rattle.reader.specs.declared.Span.{Span}
 use Rattle.reader.specs.declared.Layout.{Layout}
-use Rattle.reader.specs.declared.FileRead.the-variants.{Refused}
-use Rattle.reader.proofs.Given.{Rules, failed, policy-passed, checking-last}
-use Rattle.reader.proofs.ShownReadings.{file-refused}
+use Rattle.values.proofs.Given.{Rules, failed, policy-passed, checking-last}
 use Rattle.reader.proofs.FileAnswers.{Holds}
+use Rattle.flows.specs.Flows.{flowsDecided}
 use Rattle.entries.specs.Answers.{
   decidedContents,
   decidedReading,
   decidingValues,
   decidedValues,
   decidedAtZero,
-  flowsDecided,
   flowsReading,
   flowsAtZero,
 }
 use Rattle.entries.specs.declared.Decided.the-variants as decided
-
--- A file that is turned away.
-pub turned-file : (of-target : Bool) (flow : Flow) (file : List ℕ) (refusal : Refusal) → Refused refusal ≡ fileRead file
-    → decided.Turned refusal ≡ decidedReading of-target flow (readFile file)
-unfolding decidedReading
-turned-file of-target flow file refusal e = rw (file-refused file refusal e, decidedReading)
-
-pub flows-of-turned-file : (of-target : Bool) (flows place file : List ℕ) (refusal : Refusal) → Refused refusal ≡ fileRead file
-    → leftBy (Turned refusal) place ≡ flowsReading of-target flows (readFile file) place
-unfolding flowsReading unwritten
-flows-of-turned-file of-target flows place file refusal e = rw (file-refused file refusal e, flowsReading)
 
 -- A file that is accepted: its contents stand in it.
 module _ {file : List ℕ} {layout : Layout} (read : Holds (readFile file) file layout) where
@@ -75,20 +63,20 @@ module _ {file : List ℕ} {layout : Layout} (read : Holds (readFile file) file 
     policy-part : numbersOf list-part ≡ cond of-target (read .contents .target) (read .contents .initial)
     policy-part = ap numbersOf list-is ∙ list-read of-target list which
 
-    pub decided-file : (flow : Flow) (d : Decision) → d ≡ decide (matching (catalogueOf 3 rule-part) flow) (numbersOf list-part)
+    pub decided-file : (flow : Flow) {d : Decision} → d ≡ decide (matching (catalogueOf 3 rule-part) flow) (numbersOf list-part)
         → decided.Is d ≡ decidedReading of-target flow (readFile file)
     unfolding decidedReading decidedContents
-    decided-file flow d e =
-        rw (read .is, decidedReading)
-        (ap decided.Is (e ∙ ap₂ (λ (c : List Rule) (l : List ℕ). decide (matching c flow) l) catalogue-part policy-part))
+    decided-file flow is =
+        for-contents (λ c. decided.Is (decidedContents of-target flow c)) decided.Turned (read .is)
+        (ap decided.Is (is ∙ ap₂ (λ (c : List Rule) (l : List ℕ). decide (matching c flow) l) catalogue-part policy-part))
 
-    pub flows-of-file : (flows place : List ℕ) (left : Writing)
+    pub flows-of-file : (flows place : List ℕ) {left : Writing}
         → left ≡ flowsDecided (λ flow. decide (matching (catalogueOf 3 rule-part) flow) (numbersOf list-part)) flows place
         → left ≡ flowsReading of-target flows (readFile file) place
     unfolding flowsReading decidedContents
-    flows-of-file flows place left e =
-        rw (read .is, flowsReading)
-        (e
+    flows-of-file flows place is =
+        for-contents (λ c. flowsDecided (λ flow. decidedContents of-target flow c) flows place) (leftAlone Turned place) (read .is)
+        (is
         ∙ ap₂ (λ (c : List Rule) (l : List ℕ). flowsDecided (λ flow. decide (matching c flow) l) flows place) catalogue-part policy-part)
 
 -- Rules that pass are what their bytes are read as.
@@ -154,16 +142,18 @@ module _ (rules value : List ℕ) where
 
     pub flows-of-turned-values : (flows place : List ℕ)
         → leftBy (Turned (record { why = why; at = 0 })) place ≡ flowsAtZero (decidingValues rules value) flows place
-    unfolding flowsAtZero unwritten
-    flows-of-turned-values flows place = rw (failed (decidingValues rules value) why e)
+    unfolding flowsAtZero
+    flows-of-turned-values flows place =
+        turned-at-zero (λ decides. flowsDecided decides flows place) (leftAlone Turned place) why (failed (decidingValues rules value) why e)
 
   -- or decided
   module _ (e : Good ≡ checking (decidingValues rules value)) where
-    pub decided-values : (flow : Flow) (d : Decision) → d ≡ deciding flow → decided.Is d ≡ decidedAtZero (decidedValues rules value flow)
+    pub decided-values : (flow : Flow) {d : Decision} → d ≡ deciding flow → decided.Is d ≡ decidedAtZero (decidedValues rules value flow)
     unfolding decidedValues decidedAtZero
-    decided-values flow d is = rw (deciding-passed e) (ap decided.Is is)
+    decided-values flow is = rw (deciding-passed e) (ap decided.Is is)
 
-    pub flows-of-values : (flows place : List ℕ) (left : Writing) → left ≡ flowsDecided deciding flows place
+    pub flows-of-values : (flows place : List ℕ) {left : Writing} → left ≡ flowsDecided deciding flows place
         → left ≡ flowsAtZero (decidingValues rules value) flows place
     unfolding flowsAtZero
-    flows-of-values flows place left is = rw (deciding-passed e) is
+    flows-of-values flows place is =
+        for-passed (λ decides. flowsDecided decides flows place) (leftAlone Turned place) (deciding-passed e) is

@@ -13,28 +13,24 @@ use Rattle.deployment.specs.Checked.{good}
 use Rattle.deployment.specs.Values.{Script, rule-bytes, numbersBytes, scriptBytes}
 use Rattle.deployment.specs.Contents.{Contents}
 use Rattle.deployment.specs.File.{readToJudge}
-use Rattle.deployment.specs.FieldValues.{catalogueValue, policyValue, scriptValue}
+use Rattle.deployment.specs.FieldValues.{catalogueValue, policyValue, scriptValue, Left, leftBy, leftAlone}
 use Rattle.deployment.specs.Properties.{AreBytes, Listed, Scripted}
 use Rattle.deployment.specs.declared.Why.{Why}
-use Rattle.deployment.specs.declared.Refusal.{Refusal}
+use Rattle.deployment.proofs.Lent.{for-contents}
 use Rattle.deployment.proofs.ReadBack.{policy-reads, script-reads, list-fits, script-fits}
-use Rattle.reader.specs.Answers.{checking, valueAt, shown}
+use Rattle.catalogue.specs.Answers.{checking}
+use Rattle.reader.specs.Answers.{valueAt, shown}
 use Rattle.reader.specs.Claims.{ScriptStands, Stands}
-use Rattle.reader.specs.declared.Checking.the-variants.{Bad}
+use Rattle.catalogue.specs.declared.Checking.the-variants.{Bad}
 use Rattle.reader.specs.declared.Layout.{Layout}
-use Rattle.reader.specs.declared.FileRead.the-variants.{Accepted, Refused}
-use Rattle.reader.proofs.Given.{Rules, failed}
-use Rattle.reader.proofs.ShownReadings.{shown-refused}
+use Rattle.reader.specs.declared.FileRead.the-variants.{Accepted}
+use Rattle.values.proofs.Given.{Rules, failed}
 use Rattle.reader.proofs.FileAnswers.{holds-to-judge}
 use Rattle.replay.specs.Answers.{commandsOf}
-use Rattle.entries.specs.Answers.{Left, leftBy, replayedContents, replayedReading, replayedOver, replayedValues, replayedAtZero}
-use Rattle.entries.specs.declared.Ran.the-variants as ran
-
--- A file that is turned away.
-pub turned-file : (file place : List ℕ) (refusal : Refusal) → Refused refusal ≡ shown (readToJudge file)
-    → leftBy (ran.Turned refusal) place ≡ replayedReading (readToJudge file) place
-unfolding replayedReading
-turned-file file place refusal e = rw (shown-refused (readToJudge file) refusal e, replayedReading)
+use Rattle.last_list.specs.Last.{replayLeft, replayedOver, replayedAtZero}
+use Rattle.last_list.specs.declared.Ran.{Ran}
+use Rattle.last_list.specs.declared.Ran.the-variants as ran
+use Rattle.entries.specs.Answers.{replayedContents, replayedReading, replayedValues}
 
 -- Values of valid contents pass.
 values-pass : (size : ℕ) (initial : List ℕ) (s : Script) → size ≤ most-rules → Listed size initial → Scripted s
@@ -60,13 +56,14 @@ module _ (file : List ℕ) (layout : Layout) where
       rw (counted, stands .initial .bytes, there .bytes, has)
       (values-pass (length (c .catalogue)) (c .initial) s few (stands .valid .initial) scripted)
 
-  pub replayed-file : AreBytes file → Accepted layout ≡ shown (readToJudge file) → (place : List ℕ) {initial script : List ℕ} (left : Left)
+  pub replayed-file : AreBytes file → Accepted layout ≡ shown (readToJudge file) → (place : List ℕ) {initial script : List ℕ} {left : Left Ran}
       → initial ≡ valueAt (layout .initial) file → script ≡ valueAt (layout .script) file
       → left ≡ replayedAtZero (replayedOver (min (layout .rules) 1024) initial script) place → left ≡ replayedReading (readToJudge file) place
   unfolding replayedAtZero replayedReading
-  replayed-file bytes e place left initial-is script-is is =
+  replayed-file bytes e place initial-is script-is is =
       let (held, s, has, there) = holds-to-judge file layout bytes e in
-      is ∙ rw (initial-is, script-is, contents-replayed (held .contents) s (held .stands) has there, held .is)
+      for-contents (λ c. replayLeft place (replayedContents c)) (leftAlone ran.Turned place) (held .is)
+      (is ∙ rw (initial-is, script-is, contents-replayed (held .contents) s (held .stands) has there))
 
 -- Field values, after their rules.
 module _ (rules initial script place : List ℕ) where

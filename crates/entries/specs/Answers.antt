@@ -1,38 +1,49 @@
--- The whole answer of each entry: the decision of a flow, the decisions of many and the replay with every byte of the lent place, over a
--- file and over field values. Assumes nothing.
-use Prim.Native.Nat.{ℕ, _%_}
+-- The whole answer of each entry over a file and over field values, with every byte of the lent place: what the crates below answer for
+-- accepted contents, and the refusal of what is read. Assumes nothing.
+use Prim.Native.Nat.{ℕ}
 use mathlib.Core.Bool.{Bool, cond}
-use mathlib.Core.List.{List, map}
-use mathlib.Core.Option.{some}
+use mathlib.Core.List.{List}
 use lib.ListN.{length}
-use lib.Dec.{eqb}
 use Rattle.policy.specs.Policy.{decide, matching}
-use Rattle.policy.specs.Replay.{Replayed, ended, broken, replay}
+use Rattle.policy.specs.Replay.{Replayed, replay}
+use Rattle.policy.specs.Judge.{verdict}
 use Rattle.policy.specs.declared.Decision.{Decision}
 use Rattle.policy.specs.declared.Flow.{Flow}
 use Rattle.deployment.specs.Checked.{Checked, good, bad, _>>=_}
-use Rattle.deployment.specs.Values.{numbersBytes}
 use Rattle.deployment.specs.Contents.{Contents}
-use Rattle.deployment.specs.File.{Reading, accepted, refused}
-use Rattle.deployment.specs.FieldValues.{catalogueValue, policyValue, scriptValue, Writing, unwritten, writing}
-use Rattle.deployment.specs.Flows.{flow-bytes, flowsOf, decisionsBytes}
-use Rattle.deployment.specs.declared.Why.the-variants.{Length}
-use Rattle.deployment.specs.declared.Written.{Written}
-use Rattle.deployment.specs.declared.Written.the-variants.{Bytes, Turned}
+use Rattle.deployment.specs.File.{Reading, fileOf}
+use Rattle.deployment.specs.FieldValues.{
+  FieldValues,
+  catalogueValue,
+  policyValue,
+  readValues,
+  answered,
+  answeredAtZero,
+  Left,
+  leftAlone,
+  Writing,
+  writing,
+}
+use Rattle.deployment.specs.declared.Written.the-variants as written
+use Rattle.flows.specs.Flows.{flowsDecided}
 use Rattle.replay.specs.Answers.{commandsOf}
+use Rattle.last_list.specs.Last.{replayLeft, replayedOver}
+use Rattle.last_list.specs.declared.Ran.{Ran}
+use Rattle.last_list.specs.declared.Ran.the-variants as ran
+use Rattle.plans.specs.Plans.{Made, placedPlan}
+use Rattle.plans.specs.declared.Planned.{Planned}
+use Rattle.plans.specs.declared.Planned.the-variants as plans
+use Rattle.judge.specs.declared.Judged.{Judged}
+use Rattle.judge.specs.declared.Judged.the-variants as judged
 use Rattle.entries.specs.declared.Decided.{Decided}
 use Rattle.entries.specs.declared.Decided.the-variants as decided
-use Rattle.entries.specs.declared.Ran.{Ran}
-use Rattle.entries.specs.declared.Ran.the-variants as ran
 
 -- "A flow is decided by the first rule that matches": by the target policy, if asked for, or else by the initial one
 unfoldable pub decidedContents : Bool → Flow → Contents → Decision
 decidedContents of-target flow c = decide (matching (c .catalogue) flow) (cond of-target (c .target) (c .initial))
 
--- the whole answer to a file
 unfoldable pub decidedReading : Bool → Flow → Reading → Decided
-decidedReading of-target flow (accepted c) = decided.Is (decidedContents of-target flow c)
-decidedReading of-target flow (refused refusal) = decided.Turned refusal
+decidedReading of-target flow reading = answered (λ c. decided.Is (decidedContents of-target flow c)) decided.Turned reading
 
 -- "4 for rules not of 27 bytes each, 7, then 5 and 6 rule by rule, then 4, 8, 9" for the policy: what decides flows
 unfoldable pub decidingValues : List ℕ → List ℕ → Checked (Flow → Decision)
@@ -46,72 +57,41 @@ decidedValues rules value flow = do
   decides ← decidingValues rules value
   good (decides flow)
 
--- "all at position 0"
 unfoldable pub decidedAtZero : Checked Decision → Decided
-decidedAtZero (good d) = decided.Is d
-decidedAtZero (bad why) = decided.Turned (record { why = why; at = 0 })
+decidedAtZero read = answeredAtZero decided.Is decided.Turned read
 
--- Many flows: 4 at position 0 for flows not of 13 bytes each; the decision of each, in their order; "and last 13".
-unfoldable pub flowsDecided : (Flow → Decision) → List ℕ → List ℕ → Writing
-flowsDecided decides flows place =
-    cond (eqb (length flows % flow-bytes) 0)
-    (writing (decisionsBytes (map decides (flowsOf flows))) place)
-    (unwritten (record { why = Length; at = 0 }) place)
-
--- the whole answer to a file; "When turned away, every lent place keeps its bytes"
+-- many flows
 unfoldable pub flowsReading : Bool → List ℕ → Reading → List ℕ → Writing
-flowsReading of-target flows (accepted c) place = flowsDecided (λ flow. decidedContents of-target flow c) flows place
-flowsReading of-target flows (refused refusal) place = unwritten refusal place
+flowsReading of-target flows reading place =
+    answered (λ c. flowsDecided (λ flow. decidedContents of-target flow c) flows place) (leftAlone written.Turned place) reading
 
--- "all at position 0"
 unfoldable pub flowsAtZero : Checked (Flow → Decision) → List ℕ → List ℕ → Writing
-flowsAtZero (good decides) flows place = flowsDecided decides flows place
-flowsAtZero (bad why) flows place = unwritten (record { why = why; at = 0 }) place
-
--- what a replay leaves: how it ends, and every byte of the place
-pub record Left : Type 0 where
-  pub answer : Ran
-  pub place : List ℕ
-
-unfoldable pub leftBy : Ran → List ℕ → Left
-leftBy answer place = record { answer = answer; place = place }
-
-unfoldable pub ranTo : Written → Ran
-ranTo (Bytes n) = ran.Ended n
-ranTo (Turned refusal) = ran.Turned refusal
-
--- "on success the output fills the first bytes and the rest keep theirs", "and last 13": the last list, as a list value
-unfoldable pub listLeft : List ℕ → List ℕ → Left
-listLeft last place = let w = writing (numbersBytes last) place in leftBy (ranTo (w .answer)) (w .place)
-
--- 20 to 23 with the step: nothing is written
-unfoldable pub replayLeft : Replayed → List ℕ → Left
-replayLeft (ended last) place = listLeft last place
-replayLeft (broken fault step) place = leftBy (ran.Broken fault step) place
+flowsAtZero read flows place = answeredAtZero (λ decides. flowsDecided decides flows place) (leftAlone written.Turned place) read
 
 -- "replays from the initial policy"
 unfoldable pub replayedContents : Contents → Replayed
 replayedContents c = replay (length (c .catalogue)) (c .initial) (commandsOf (c .script))
 
--- the whole answer to a file; "When turned away, every lent place keeps its bytes"
-unfoldable pub replayedReading : Reading → List ℕ → Left
-replayedReading (accepted c) place = replayLeft (replayedContents c) place
-replayedReading (refused refusal) place = leftBy (ran.Turned refusal) place
+unfoldable pub replayedReading : Reading → List ℕ → Left Ran
+replayedReading reading place = answered (λ c. replayLeft place (replayedContents c)) (leftAlone ran.Turned place) reading
 
--- "4, 8, 9 for the initial policy", "4, 11 for the script", and the replay over so many rules
-unfoldable pub replayedOver : ℕ → List ℕ → List ℕ → Checked Replayed
-replayedOver size initial value = do
-  policy ← policyValue size initial
-  script ← scriptValue (some value)
-  good (replay size policy (commandsOf script))
-
--- "4 for rules not of 27 bytes each, 7, then 5 and 6 rule by rule" before these
+-- "4 for rules not of 27 bytes each, 7, then 5 and 6 rule by rule" before the policy and the script
 unfoldable pub replayedValues : List ℕ → List ℕ → List ℕ → Checked Replayed
 replayedValues rules initial script = do
   catalogue ← catalogueValue rules
   replayedOver (length catalogue) initial script
 
--- "all at position 0"
-unfoldable pub replayedAtZero : Checked Replayed → List ℕ → Left
-replayedAtZero (good r) place = replayLeft r place
-replayedAtZero (bad why) place = leftBy (ran.Turned (record { why = why; at = 0 })) place
+-- a plan
+unfoldable pub planned : (Contents → Made) → Reading → List ℕ → Left Planned
+planned planner reading place = answered (λ c. placedPlan (planner c) place) (leftAlone plans.Turned place) reading
+
+-- the verdict
+unfoldable pub judgedContents : Contents → Judged
+judgedContents c = judged.Said (verdict (length (c .catalogue)) (c .initial) (c .target) (commandsOf (c .script)))
+
+unfoldable pub judgedReading : Reading → Judged
+judgedReading reading = answered judgedContents judged.Turned reading
+
+-- the file
+unfoldable pub writtenValues : FieldValues → List ℕ → Writing
+writtenValues v place = answered (λ c. writing (fileOf c) place) (leftAlone written.Turned place) (readValues v)

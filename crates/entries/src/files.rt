@@ -3,30 +3,29 @@
 ghost use mathlib.Core.Path.{_≡_};
 ghost use mathlib.Core.Bool.{cond};
 ghost use Prim.Native.Nat.{_*_, _≤_};
+ghost use Rattle.policy.specs.Policy.{most-rules};
 ghost use Rattle.deployment.specs.File.{readFile, readToJudge};
-ghost use Rattle.deployment.specs.FieldValues as writings;
-ghost use Rattle.entries.specs.Answers.{decidedReading, flowsReading, replayedReading, leftBy};
+ghost use Rattle.deployment.specs.FieldValues.{leftBy};
+ghost use Rattle.plans.specs.Plans.{madeOne, madeTwo};
+ghost use Rattle.entries.specs.Answers.{decidedReading, flowsReading, replayedReading, planned, judgedReading};
 use super::Decided;
-use super::Ran;
-use super::flows::decide_into;
-use super::last::replay_into;
 use decision::decided;
 use deployment::Written;
-pub use judge::judge_file as judge;
-pub use planner::plan_one_file as plan_one;
-pub use planner::plan_two_file as plan_two;
+use flows::decide_into;
+use format::HEAD_BYTES;
+use format::RULE_FIELD_BYTES;
+use judge::Judged;
+use judge::verdict_of;
+use last_list::Ran;
+use last_list::replay_into;
+use plans::Planned;
 use policy::Flow;
 use reader::FileRead;
 use reader::Layout;
 use reader::Span;
-use reader::file::HEAD_BYTES;
 pub use reader::file::read;
 pub use reader::file::read_to_judge;
 pub use reader::file::value;
-use reader::values::RULE_BYTES;
-
-// A rule's field: its head and its value.
-const RULE_FIELD_BYTES: usize = HEAD_BYTES + RULE_BYTES;
 
 // Where the policy that is asked for stands.
 fn asked(layout: Layout, of_target: bool) -> Span
@@ -41,7 +40,7 @@ fn asked(layout: Layout, of_target: bool) -> Span
 
 // Where so many rules stand: they are first in a file, each behind its field's head.
 fn rules_of(count: usize) -> Span
-    requires { ⌜ count ≤ 1024 ⌝ }
+    requires { ⌜ count ≤ most-rules ⌝ }
     ensures { λ s. ⌜ s ≡ record { start = 0; size = 30 * count } ⌝ }
 {
     Span {
@@ -73,7 +72,7 @@ pub fn decide(file: &[u8], of_target: bool, flow: Flow) -> Decided
 // Decides flows by a policy of the file, read once: 13 bytes a flow, and three of the first bytes of `place` for its action and place.
 pub fn decide_flows(file: &[u8], of_target: bool, flows: &[u8], place: &mut [u8]) -> Written
     ensures { λ r. ⌜
-        writings.leftBy r (now (place .exit))
+        leftBy r (now (place .exit))
         ≡ flowsReading «of_target» (now (flows .entry)) (readFile (now (file .entry))) (now (place .entry))
         ⌝ }
 {
@@ -110,6 +109,54 @@ pub fn replay(file: &[u8], place: &mut [u8]) -> Ran
                 value(file, script),
                 place,
             )
+        }
+    }
+}
+
+// The script for append and delete, for the policies of the file; the script field fills the first bytes of `place`.
+pub fn plan_one(file: &[u8], place: &mut [u8]) -> Planned
+    ensures { λ r. ⌜ leftBy r (now (place .exit)) ≡ planned madeOne (readFile (now (file .entry))) (now (place .entry)) ⌝ }
+{
+    let found = read(file);
+    match found {
+        FileRead::Refused(refusal) => Planned::Turned(refusal),
+        FileRead::Accepted(layout) => append_delete::plan_one(
+            value(file, layout.initial),
+            value(file, layout.target),
+            place,
+        ),
+    }
+}
+
+// The script for insert, delete and move, for the policies and the keep list of the file.
+pub fn plan_two(file: &[u8], place: &mut [u8]) -> Planned
+    ensures { λ r. ⌜ leftBy r (now (place .exit)) ≡ planned madeTwo (readFile (now (file .entry))) (now (place .entry)) ⌝ }
+{
+    let found = read(file);
+    match found {
+        FileRead::Refused(refusal) => Planned::Turned(refusal),
+        FileRead::Accepted(layout) => insert_delete_move::plan_two(
+            value(file, layout.initial),
+            value(file, layout.target),
+            layout.has_keep,
+            value(file, layout.keep),
+            place,
+        ),
+    }
+}
+
+// Judges the script of the file.
+pub fn judge(file: &[u8]) -> Judged
+    ensures { λ r. ⌜ r ≡ judgedReading (readToJudge (now (file .entry))) ⌝ }
+{
+    let found = read_to_judge(file);
+    match found {
+        FileRead::Refused(refusal) => Judged::Turned(refusal),
+        FileRead::Accepted(layout) => {
+            let initial = value(file, layout.initial);
+            let target = value(file, layout.target);
+            let script = value(file, layout.script);
+            Judged::Said(verdict_of(layout.rules, initial, target, script))
         }
     }
 }

@@ -1,26 +1,39 @@
 // The entries over field values. All refusals of values stand at position 0.
 
 ghost use mathlib.Core.Path.{_≡_};
-ghost use Rattle.deployment.specs.FieldValues as writings;
-ghost use Rattle.reader.specs.Answers.{checking};
-ghost use Rattle.entries.specs.Answers.{decidingValues, decidedValues, decidedAtZero, flowsAtZero, replayedValues, replayedAtZero, leftBy};
+ghost use mathlib.Core.Bool.{true};
+ghost use Rattle.deployment.specs.FieldValues.{leftBy, readValues};
+ghost use Rattle.catalogue.specs.Answers.{checking};
+ghost use Rattle.values.specs.Answers.{valuesGiven};
+ghost use Rattle.last_list.specs.Last.{replayedAtZero};
+ghost use Rattle.plans.specs.Plans.{madeOne, madeTwo};
+ghost use Rattle.entries.specs.Answers.{
+  decidingValues,
+  decidedValues,
+  decidedAtZero,
+  flowsAtZero,
+  replayedValues,
+  planned,
+  judgedReading,
+  writtenValues,
+};
 use super::Decided;
-use super::Ran;
-use super::flows::decide_into;
-use super::last::replay_into;
+use catalogue::Checking;
+use catalogue::catalogue_checked;
 use decision::decided;
 use deployment::Refusal;
 use deployment::Written;
-pub use judge::judge_values as judge;
-pub use planner::plan_one_values as plan_one;
-pub use planner::plan_two_values as plan_two;
+use flows::decide_into;
+use format::RULE_BYTES;
+use judge::Judged;
+use judge::verdict_of;
+use last_list::Ran;
+use last_list::replay_into;
+use plans::Planned;
 use policy::Flow;
-use reader::Checking;
-pub use reader::lists::values_checked as check;
-use reader::values::RULE_BYTES;
-use reader::values::catalogue_checked;
-use reader::values::policy_checked;
-pub use writer::write;
+pub use values::lists::values_checked as check;
+use values::policy_checked;
+use writer::write_into;
 
 // No field's head stands before a rule of a field value.
 const NO_HEAD: u8 = 0;
@@ -50,7 +63,7 @@ pub fn decide(rules: &[u8], policy: &[u8], flow: Flow) -> Decided
 // Decides flows by a policy, tested once: 13 bytes a flow, and three of the first bytes of `place` for its action and place.
 pub fn decide_flows(rules: &[u8], policy: &[u8], flows: &[u8], place: &mut [u8]) -> Written
     ensures { λ r. ⌜
-        writings.leftBy r (now (place .exit))
+        leftBy r (now (place .exit))
         ≡ flowsAtZero (decidingValues (now (rules .entry)) (now (policy .entry))) (now (flows .entry)) (now (place .entry))
         ⌝ }
 {
@@ -74,4 +87,111 @@ pub fn replay(rules: &[u8], initial: &[u8], script: &[u8], place: &mut [u8]) -> 
         return Ran::Turned(Refusal { why, at: 0 });
     }
     replay_into(rules.len() / RULE_BYTES, initial, script, place)
+}
+
+// Writes the file of the values into the first bytes of `place`; the keep list and the script are there if their `has_` says so.
+pub fn write(
+    rules: &[u8],
+    initial: &[u8],
+    target: &[u8],
+    has_keep: bool,
+    keep: &[u8],
+    has_script: bool,
+    script: &[u8],
+    place: &mut [u8],
+) -> Written
+    ensures { λ r. ⌜
+        leftBy r (now (place .exit))
+        ≡ writtenValues
+        (valuesGiven (now (rules .entry)) (now (initial .entry)) (now (target .entry)) «has_keep» (now (keep .entry)) «has_script» (now (script .entry)))
+        (now (place .entry))
+        ⌝ }
+{
+    let c = check(rules, initial, target, has_keep, keep, has_script, script);
+    if let Checking::Bad(why) = c {
+        return Written::Turned(Refusal { why, at: 0 });
+    }
+    write_into(
+        rules,
+        initial,
+        target,
+        has_keep,
+        keep,
+        has_script,
+        script,
+        place,
+    )
+}
+
+// The script for append and delete; the script field fills the first bytes of `place`. A script that is given is tested and not used.
+pub fn plan_one(
+    rules: &[u8],
+    initial: &[u8],
+    target: &[u8],
+    has_keep: bool,
+    keep: &[u8],
+    has_script: bool,
+    script: &[u8],
+    place: &mut [u8],
+) -> Planned
+    ensures { λ r. ⌜
+        leftBy r (now (place .exit))
+        ≡ planned madeOne
+        (readValues (valuesGiven (now (rules .entry)) (now (initial .entry)) (now (target .entry)) «has_keep» (now (keep .entry)) «has_script» (now (script .entry))))
+        (now (place .entry))
+        ⌝ }
+{
+    let c = check(rules, initial, target, has_keep, keep, has_script, script);
+    if let Checking::Bad(why) = c {
+        return Planned::Turned(Refusal { why, at: 0 });
+    }
+    append_delete::plan_one(initial, target, place)
+}
+
+// The script for insert, delete and move.
+pub fn plan_two(
+    rules: &[u8],
+    initial: &[u8],
+    target: &[u8],
+    has_keep: bool,
+    keep: &[u8],
+    has_script: bool,
+    script: &[u8],
+    place: &mut [u8],
+) -> Planned
+    ensures { λ r. ⌜
+        leftBy r (now (place .exit))
+        ≡ planned madeTwo
+        (readValues (valuesGiven (now (rules .entry)) (now (initial .entry)) (now (target .entry)) «has_keep» (now (keep .entry)) «has_script» (now (script .entry))))
+        (now (place .entry))
+        ⌝ }
+{
+    let c = check(rules, initial, target, has_keep, keep, has_script, script);
+    if let Checking::Bad(why) = c {
+        return Planned::Turned(Refusal { why, at: 0 });
+    }
+    insert_delete_move::plan_two(initial, target, has_keep, keep, place)
+}
+
+// Judges a script; the keep list is there if `has_keep` says so.
+pub fn judge(
+    rules: &[u8],
+    initial: &[u8],
+    target: &[u8],
+    has_keep: bool,
+    keep: &[u8],
+    script: &[u8],
+) -> Judged
+    ensures { λ r.
+        ⌜ r ≡ judgedReading (readValues (valuesGiven (now (rules .entry)) (now (initial .entry)) (now (target .entry))
+        «has_keep» (now (keep .entry)) true (now (script .entry)))) ⌝ }
+{
+    let c = check(rules, initial, target, has_keep, keep, true, script);
+    match c {
+        Checking::Bad(why) => Judged::Turned(Refusal { why, at: 0 }),
+        Checking::Good => {
+            let size = rules.len() / RULE_BYTES;
+            Judged::Said(verdict_of(size, initial, target, script))
+        }
+    }
 }

@@ -1,6 +1,6 @@
-// Runs the entries on rows of cases and prints each whole answer, with a checksum of the place that was lent. Each argument names a row. A case: is it
-// about a file (0) or field values (1), is there a keep list, is there a script; two bytes for the size of the place; a flow in 13 bytes; then its parts,
-// themselves a row: the file; or the rules, both policies, the keep list and the script; and last flows, for the entries that take many at once.
+// Runs the entries on rows of cases and prints each whole answer, with a checksum of the place that was lent. Each argument names a row. A case is eleven
+// numbers of two bytes (is it about field values, is there a keep list, is there a script, the size of the place, a flow whose addresses have two numbers
+// each), then its parts, themselves a row: the file; or the rules, both policies, the keep list and the script; and last flows, for entries that take many.
 
 use cases::bytes_at;
 use cases::checksum;
@@ -9,27 +9,87 @@ use cases::print_number;
 use cases::print_reading;
 use cases::print_refusal;
 use cases::read_argument;
+use catalogue::Checking;
 use deployment::Written;
-use deployment::four;
-use deployment::two;
 use entries::Decided;
-use entries::Ran;
 use entries::files;
 use entries::lists;
+use format::number_at;
 use judge::Judged;
+use last_list::Ran;
 use libc::STDOUT_FILENO;
-use planner::Planned;
+use numbers::fault_number;
+use numbers::why_number;
+use plans::Planned;
 use policy::Action;
+use policy::Decision;
+use policy::Fault;
 use policy::Flow;
 use policy::Verdict;
-use reader::Checking;
-use reader::Span;
-use reader::file::value;
 
 // What a lent place holds before a call.
 const LENT: u8 = 165;
 
-// Where the numbers of a case stand.
+// Which word of the lines is which; a line's end stands with the next line's word. An answer that fills a place goes by the number of its word.
+const READ: usize = 0;
+
+const TO_JUDGE: usize = 1;
+
+const INITIAL_IS: usize = 2;
+
+const TARGET_IS: usize = 3;
+
+const JUDGE: usize = 4;
+
+const REPLAY: usize = 5;
+
+const PLAN_ONE: usize = 6;
+
+const PLAN_TWO: usize = 7;
+
+const BY_INITIAL: usize = 8;
+
+const BY_TARGET: usize = 9;
+
+const PLACE: usize = 10;
+
+const END: usize = 11;
+
+const PERMIT: usize = 12;
+
+const DENY: usize = 13;
+
+const GOOD: usize = 14;
+
+const CHECK: usize = 15;
+
+const VERDICT: usize = 16;
+
+const ELSEWHERE: usize = 17;
+
+const UNORDERED: usize = 18;
+
+const NOT_FULL: usize = 19;
+
+const SAFE: usize = 20;
+
+const SPACE: usize = 21;
+
+const BROKEN: usize = 22;
+
+const AT: usize = 23;
+
+const ENDED: usize = 24;
+
+const KEPT: usize = 25;
+
+const COMMANDS: usize = 26;
+
+const AND_BYTES: usize = 27;
+
+const BYTES: usize = 28;
+
+// Which number of a case is which; an address is two of them.
 const OVER_LISTS: usize = 0;
 
 const HAS_KEEP: usize = 1;
@@ -38,17 +98,22 @@ const HAS_SCRIPT: usize = 2;
 
 const ROOM: usize = 3;
 
-const PROTOCOL: usize = 5;
+const PROTOCOL: usize = 4;
 
-const SOURCE: usize = 6;
+const SOURCE: usize = 5;
 
-const SOURCE_PORT: usize = 10;
+const SOURCE_LOW: usize = 6;
 
-const DESTINATION: usize = 12;
+const SOURCE_PORT: usize = 7;
 
-const DESTINATION_PORT: usize = 16;
+const DESTINATION: usize = 8;
 
-const PARTS: usize = 18;
+const DESTINATION_LOW: usize = 9;
+
+const DESTINATION_PORT: usize = 10;
+
+// Where the parts of a case begin.
+const PARTS: usize = 22;
 
 // Which part is which.
 const FILE: usize = 0;
@@ -67,249 +132,194 @@ const SCRIPT: usize = 4;
 
 const FLOWS: usize = 5;
 
-fn print(word: &[u8]) {
-    io::write_all(STDOUT_FILENO, word);
-}
-
-fn print_decided(word: &[u8], answer: Decided) {
-    print(word);
-    match answer {
-        Decided::Turned(refusal) => print_refusal(refusal),
-        Decided::Is(decision) => {
-            let action = decision.action;
-            match action {
-                Action::Permit => print(b"permit"),
-                Action::Deny => print(b"deny"),
-            }
-            print_number(b" ", decision.place);
-        }
-    }
-    print(b"\n");
-}
-
-fn print_verdict(verdict: Verdict) {
-    match verdict {
-        Verdict::Broken(fault, step) => {
-            print_number(b"verdict ", fault.number() as usize);
-            print_number(b" ", step);
-        }
-        Verdict::Elsewhere(count) => print_number(b"verdict 24 ", count),
-        Verdict::Unordered(step, place) => {
-            print_number(b"verdict 30 ", step);
-            print_number(b" ", place);
-        }
-        Verdict::NotFull => print(b"verdict 31"),
-        Verdict::Safe => print(b"verdict 32"),
-    }
-}
-
-fn print_judged(answer: Judged) {
-    print(b"judge ");
-    match answer {
-        Judged::Turned(refusal) => print_refusal(refusal),
-        Judged::Said(verdict) => print_verdict(verdict),
-    }
-    print(b"\n");
-}
-
-fn print_checking(answer: Checking) {
-    match answer {
-        Checking::Good => print(b"check good\n"),
-        Checking::Bad(why) => {
-            print_number(b"check ", why.number() as usize);
-            print(b"\n");
-        }
-    }
-}
-
-fn print_place(place: &[u8]) {
-    print_number(b" place ", checksum(place, true) as usize);
-    print(b"\n");
-}
-
-fn print_ran(answer: Ran, place: &[u8]) {
-    print(b"replay ");
-    match answer {
-        Ran::Turned(refusal) => print_refusal(refusal),
-        Ran::Ended(bytes) => print_number(b"ended ", bytes),
-        Ran::Broken(fault, step) => {
-            print_number(b"broken ", fault.number() as usize);
-            print_number(b" at ", step);
-        }
-    }
-    print_place(place);
-}
-
-fn print_planned(word: &[u8], answer: Planned, place: &[u8]) {
-    print(word);
-    match answer {
-        Planned::Turned(refusal) => print_refusal(refusal),
-        Planned::Done(plan) => {
-            print_number(b"kept ", plan.kept);
-            print_number(b" commands ", plan.commands);
-            print_number(b" bytes ", plan.bytes);
-        }
-    }
-    print_place(place);
-}
-
-fn print_written(word: &[u8], answer: Written, place: &[u8]) {
-    print(word);
-    match answer {
-        Written::Turned(refusal) => print_refusal(refusal),
-        Written::Bytes(bytes) => print_number(b"bytes ", bytes),
-    }
-    print_place(place);
-}
-
-fn fill(place: &mut [u8]) {
-    let mut i = 0;
-    while i < place.len() {
-        place[i] = LENT;
-        i += 1;
-    }
-}
-
-// A byte of a case; 0 behind its end.
-fn byte(case: &[u8], i: usize) -> u8 {
-    if i < case.len() { case[i] } else { 0 }
-}
-
-fn two_at(case: &[u8], start: usize) -> u16 {
-    let bytes = value(case, Span { start, size: 2 });
-    two(byte(bytes, 0), byte(bytes, 1))
-}
-
-fn four_at(case: &[u8], start: usize) -> u32 {
-    let bytes = value(case, Span { start, size: 4 });
-    four(
-        byte(bytes, 0),
-        byte(bytes, 1),
-        byte(bytes, 2),
-        byte(bytes, 3),
-    )
-}
-
-fn flow(case: &[u8]) -> Flow {
-    Flow {
-        protocol: byte(case, PROTOCOL),
-        source: four_at(case, SOURCE),
-        source_port: two_at(case, SOURCE_PORT),
-        destination: four_at(case, DESTINATION),
-        destination_port: two_at(case, DESTINATION_PORT),
-    }
-}
-
-// The place where the part with this number starts.
-fn part_place(case: &[u8], number: usize) -> usize {
-    let mut at = PARTS;
+// The place where the part with this number starts, of those that start at a place of a row.
+fn part_place(row: &[u8], from: usize, number: usize) -> usize {
+    let mut at = from;
     let mut i = 0;
     while i < number {
-        at = next_place(case, at);
+        at = next_place(row, at);
         i += 1;
     }
     at
 }
 
 fn part<'a>(case: &'a [u8], number: usize) -> &'a [u8] {
-    bytes_at(case, part_place(case, number))
+    bytes_at(case, part_place(case, PARTS, number))
 }
 
-fn has_keep(case: &[u8]) -> bool {
-    byte(case, HAS_KEEP) == 1
+fn word<'a>(words: &'a [u8], number: usize) -> &'a [u8] {
+    bytes_at(words, part_place(words, 0, number))
 }
 
-fn has_script(case: &[u8]) -> bool {
-    byte(case, HAS_SCRIPT) == 1
+fn print(words: &[u8], number: usize) {
+    io::write_all(STDOUT_FILENO, word(words, number));
 }
 
-fn read_file(file: &[u8], flow: Flow) {
-    print(b"read ");
+fn say(words: &[u8], number: usize, n: usize) {
+    print_number(word(words, number), n);
+}
+
+fn print_decision(words: &[u8], decision: Decision) {
+    let action = decision.action;
+    match action {
+        Action::Permit => say(words, PERMIT, decision.place),
+        Action::Deny => say(words, DENY, decision.place),
+    }
+}
+
+fn print_decided(words: &[u8], answer: Decided) {
+    match answer {
+        Decided::Turned(refusal) => print_refusal(refusal),
+        Decided::Is(decision) => print_decision(words, decision),
+    }
+}
+
+fn print_verdict(words: &[u8], verdict: Verdict) {
+    match verdict {
+        Verdict::Broken(fault, step) => {
+            say(words, VERDICT, fault_number(fault) as usize);
+            say(words, SPACE, step);
+        }
+        Verdict::Elsewhere(count) => say(words, ELSEWHERE, count),
+        Verdict::Unordered(step, place) => {
+            say(words, UNORDERED, step);
+            say(words, SPACE, place);
+        }
+        Verdict::NotFull => print(words, NOT_FULL),
+        Verdict::Safe => print(words, SAFE),
+    }
+}
+
+fn print_judged(words: &[u8], answer: Judged) {
+    match answer {
+        Judged::Turned(refusal) => print_refusal(refusal),
+        Judged::Said(verdict) => print_verdict(words, verdict),
+    }
+}
+
+fn print_checking(words: &[u8], answer: Checking) {
+    match answer {
+        Checking::Good => print(words, GOOD),
+        Checking::Bad(why) => {
+            say(words, CHECK, why_number(why) as usize);
+            print(words, END);
+        }
+    }
+}
+
+fn print_ran(words: &[u8], answer: Ran) {
+    match answer {
+        Ran::Turned(refusal) => print_refusal(refusal),
+        Ran::Ended(bytes) => say(words, ENDED, bytes),
+        Ran::Broken(fault, step) => {
+            say(words, BROKEN, fault_number(fault) as usize);
+            say(words, AT, step);
+        }
+    }
+}
+
+fn print_planned(words: &[u8], answer: Planned) {
+    match answer {
+        Planned::Turned(refusal) => print_refusal(refusal),
+        Planned::Done(plan) => {
+            say(words, KEPT, plan.kept);
+            say(words, COMMANDS, plan.commands);
+            say(words, AND_BYTES, plan.bytes);
+        }
+    }
+}
+
+fn print_written(words: &[u8], answer: Written) {
+    match answer {
+        Written::Turned(refusal) => print_refusal(refusal),
+        Written::Bytes(bytes) => say(words, BYTES, bytes),
+    }
+}
+
+fn joined(high: u16, low: u16) -> u32 {
+    high as u32 * 65536 + low as u32
+}
+
+fn flow(case: &[u8]) -> Flow {
+    Flow {
+        protocol: (number_at(case, PROTOCOL) % 256) as u8,
+        source: joined(number_at(case, SOURCE), number_at(case, SOURCE_LOW)),
+        source_port: number_at(case, SOURCE_PORT),
+        destination: joined(
+            number_at(case, DESTINATION),
+            number_at(case, DESTINATION_LOW),
+        ),
+        destination_port: number_at(case, DESTINATION_PORT),
+    }
+}
+
+fn read_file(words: &[u8], file: &[u8], flow: Flow) {
+    print(words, READ);
     print_reading(files::read(file));
-    print(b"read to judge ");
+    print(words, TO_JUDGE);
     print_reading(files::read_to_judge(file));
-    print_decided(b"initial ", files::decide(file, false, flow));
-    print_decided(b"target ", files::decide(file, true, flow));
-    print_judged(files::judge(file));
+    print(words, INITIAL_IS);
+    print_decided(words, files::decide(file, false, flow));
+    print(words, TARGET_IS);
+    print_decided(words, files::decide(file, true, flow));
+    print(words, JUDGE);
+    print_judged(words, files::judge(file));
 }
 
-fn decide_file(file: &[u8], flows: &[u8], place: &mut [u8]) {
-    fill(place);
-    print_written(
-        b"flows by initial ",
-        files::decide_flows(file, false, flows, place),
-        place,
+fn read_lists(words: &[u8], case: &[u8], flow: Flow) {
+    let rules = part(case, RULES);
+    let initial = part(case, INITIAL);
+    let target = part(case, TARGET);
+    let has_keep = number_at(case, HAS_KEEP) == 1;
+    let keep = part(case, KEEP);
+    let has_script = number_at(case, HAS_SCRIPT) == 1;
+    let script = part(case, SCRIPT);
+    print_checking(
+        words,
+        lists::check(rules, initial, target, has_keep, keep, has_script, script),
     );
-    fill(place);
-    print_written(
-        b"flows by target ",
-        files::decide_flows(file, true, flows, place),
-        place,
+    print(words, INITIAL_IS);
+    print_decided(words, lists::decide(rules, initial, flow));
+    print(words, TARGET_IS);
+    print_decided(words, lists::decide(rules, target, flow));
+    print(words, JUDGE);
+    print_judged(
+        words,
+        lists::judge(rules, initial, target, has_keep, keep, script),
     );
 }
 
-fn plan_file(file: &[u8], place: &mut [u8]) {
-    fill(place);
-    print_ran(files::replay(file, place), place);
-    fill(place);
-    print_planned(b"plan 1 ", files::plan_one(file, place), place);
-    fill(place);
-    print_planned(b"plan 2 ", files::plan_two(file, place), place);
-}
-
-fn write_file(case: &[u8], place: &mut [u8]) {
-    let file = part(case, FILE);
-    plan_file(file, place);
-    decide_file(file, part(case, FILE_FLOWS), place);
-}
-
-fn check_lists(case: &[u8]) -> Checking {
-    lists::check(
-        part(case, RULES),
-        part(case, INITIAL),
-        part(case, TARGET),
-        has_keep(case),
-        part(case, KEEP),
-        has_script(case),
-        part(case, SCRIPT),
-    )
-}
-
-fn judge_lists(case: &[u8]) -> Judged {
-    lists::judge(
-        part(case, RULES),
-        part(case, INITIAL),
-        part(case, TARGET),
-        has_keep(case),
-        part(case, KEEP),
-        part(case, SCRIPT),
-    )
-}
-
-fn plan_one_lists(case: &[u8], place: &mut [u8]) -> Planned {
-    lists::plan_one(
-        part(case, RULES),
-        part(case, INITIAL),
-        part(case, TARGET),
-        has_keep(case),
-        part(case, KEEP),
-        has_script(case),
-        part(case, SCRIPT),
-        place,
-    )
-}
-
-fn plan_two_lists(case: &[u8], place: &mut [u8]) -> Planned {
-    lists::plan_two(
-        part(case, RULES),
-        part(case, INITIAL),
-        part(case, TARGET),
-        has_keep(case),
-        part(case, KEEP),
-        has_script(case),
-        part(case, SCRIPT),
-        place,
-    )
+fn plan_lists(case: &[u8], second: bool, place: &mut [u8]) -> Planned {
+    let rules = part(case, RULES);
+    let initial = part(case, INITIAL);
+    let target = part(case, TARGET);
+    let has_keep = number_at(case, HAS_KEEP) == 1;
+    let keep = part(case, KEEP);
+    let has_script = number_at(case, HAS_SCRIPT) == 1;
+    let script = part(case, SCRIPT);
+    if second {
+        lists::plan_two(
+            rules,
+            initial,
+            target,
+            has_keep,
+            keep,
+            has_script,
+            script,
+            place,
+        )
+    } else {
+        lists::plan_one(
+            rules,
+            initial,
+            target,
+            has_keep,
+            keep,
+            has_script,
+            script,
+            place,
+        )
+    }
 }
 
 fn replay_lists(case: &[u8], place: &mut [u8]) -> Ran {
@@ -321,15 +331,7 @@ fn replay_lists(case: &[u8], place: &mut [u8]) -> Ran {
     )
 }
 
-fn read_lists(case: &[u8], flow: Flow) {
-    print_checking(check_lists(case));
-    let rules = part(case, RULES);
-    print_decided(b"initial ", lists::decide(rules, part(case, INITIAL), flow));
-    print_decided(b"target ", lists::decide(rules, part(case, TARGET), flow));
-    print_judged(judge_lists(case));
-}
-
-fn flows_lists(case: &[u8], list: usize, place: &mut [u8]) -> Written {
+fn decide_lists(case: &[u8], list: usize, place: &mut [u8]) -> Written {
     lists::decide_flows(
         part(case, RULES),
         part(case, list),
@@ -338,57 +340,94 @@ fn flows_lists(case: &[u8], list: usize, place: &mut [u8]) -> Written {
     )
 }
 
-fn decide_lists(case: &[u8], place: &mut [u8]) {
-    fill(place);
-    print_written(
-        b"flows by initial ",
-        flows_lists(case, INITIAL, place),
-        place,
-    );
-    fill(place);
-    print_written(b"flows by target ", flows_lists(case, TARGET, place), place);
-}
-
-fn plan_lists(case: &[u8], place: &mut [u8]) {
-    fill(place);
-    print_ran(replay_lists(case, place), place);
-    fill(place);
-    print_planned(b"plan 1 ", plan_one_lists(case, place), place);
-    fill(place);
-    print_planned(b"plan 2 ", plan_two_lists(case, place), place);
-}
-
-fn write_lists(case: &[u8], place: &mut [u8]) {
-    plan_lists(case, place);
-    decide_lists(case, place);
-}
-
-// The lent place is the first bytes of a room that has as many as two bytes can say.
-fn print_case(case: &[u8]) {
-    let mut room = [LENT; 65536];
-    let size = two_at(case, ROOM) as usize;
-    if byte(case, OVER_LISTS) == 1 {
-        read_lists(case, flow(case));
-        write_lists(case, &mut room[..size]);
+fn fill_by_lists(words: &[u8], case: &[u8], asked: usize, place: &mut [u8]) {
+    if asked == REPLAY {
+        print_ran(words, replay_lists(case, place));
+    } else if asked == PLAN_ONE {
+        print_planned(words, plan_lists(case, false, place));
+    } else if asked == PLAN_TWO {
+        print_planned(words, plan_lists(case, true, place));
+    } else if asked == BY_INITIAL {
+        print_written(words, decide_lists(case, INITIAL, place));
     } else {
-        let file = part(case, FILE);
-        read_file(file, flow(case));
-        write_file(case, &mut room[..size]);
+        print_written(words, decide_lists(case, TARGET, place));
     }
 }
 
-fn print_row(row: &[u8]) {
+fn decide_file(case: &[u8], of_target: bool, place: &mut [u8]) -> Written {
+    files::decide_flows(part(case, FILE), of_target, part(case, FILE_FLOWS), place)
+}
+
+fn fill_by_file(words: &[u8], case: &[u8], asked: usize, place: &mut [u8]) {
+    if asked == REPLAY {
+        print_ran(words, files::replay(part(case, FILE), place));
+    } else if asked == PLAN_ONE {
+        print_planned(words, files::plan_one(part(case, FILE), place));
+    } else if asked == PLAN_TWO {
+        print_planned(words, files::plan_two(part(case, FILE), place));
+    } else {
+        print_written(words, decide_file(case, asked == BY_TARGET, place));
+    }
+}
+
+fn is_over_lists(case: &[u8]) -> bool {
+    number_at(case, OVER_LISTS) == 1
+}
+
+fn fill(words: &[u8], case: &[u8], asked: usize, place: &mut [u8]) {
+    if is_over_lists(case) {
+        fill_by_lists(words, case, asked, place);
+    } else {
+        fill_by_file(words, case, asked, place);
+    }
+}
+
+fn print_filled(words: &[u8], case: &[u8], asked: usize, place: &mut [u8]) {
+    fill(words, case, asked, place);
+    say(words, PLACE, checksum(place, true) as usize);
+}
+
+// The lent place is the first bytes of a room that has as many as two bytes can say.
+fn print_lent(words: &[u8], case: &[u8], asked: usize) {
+    let mut room = [LENT; 65536];
+    let size = number_at(case, ROOM) as usize;
+    print(words, asked);
+    print_filled(words, case, asked, &mut room[..size]);
+}
+
+fn print_read(words: &[u8], case: &[u8]) {
+    if is_over_lists(case) {
+        read_lists(words, case, flow(case));
+    } else {
+        read_file(words, part(case, FILE), flow(case));
+    }
+}
+
+fn print_case(words: &[u8], case: &[u8]) {
+    print_read(words, case);
+    print_lent(words, case, REPLAY);
+    print_lent(words, case, PLAN_ONE);
+    print_lent(words, case, PLAN_TWO);
+    print_lent(words, case, BY_INITIAL);
+    print_lent(words, case, BY_TARGET);
+    print(words, END);
+}
+
+fn print_row(words: &[u8], row: &[u8]) {
     let mut at = 0;
     while at < row.len() {
-        print_case(bytes_at(row, at));
+        print_case(words, bytes_at(row, at));
         at = next_place(row, at);
     }
 }
 
+// The words of all lines are a row, each behind its length.
 fn print_argument(i: usize) {
+    let words =
+        b"\x00\x05read \x00\x0eread to judge \x00\x08initial \x00\x08\ntarget \x00\x07\njudge \x00\x08\nreplay \x00\x08\nplan 1 \x00\x08\nplan 2 \x00\x12\nflows by initial \x00\x11\nflows by target \x00\x07 place \x00\x01\n\x00\x07permit \x00\x05deny \x00\x0bcheck good\n\x00\x06check \x00\x08verdict \x00\x0bverdict 24 \x00\x0bverdict 30 \x00\x0averdict 31\x00\x0averdict 32\x00\x01 \x00\x07broken \x00\x04 at \x00\x06ended \x00\x05kept \x00\x0a commands \x00\x07 bytes \x00\x06bytes ";
     let mut row = io::large_buffer();
     let got = read_argument(i, &mut row);
-    print_row(&row[..got]);
+    print_row(words, &row[..got]);
 }
 
 fn main() {

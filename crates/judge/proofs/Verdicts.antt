@@ -27,15 +27,15 @@ use Rattle.deployment.specs.Values.{scriptOf}
 use Rattle.deployment.specs.Commands.{commandCount, commandAt, decoded}
 use Rattle.deployment.specs.declared.Decoded.the-variants.{Is}
 use Rattle.deployment.proofs.Values.{byOption}
-use Rattle.running.specs.Places.{renumbered}
-use Rattle.running.proofs.Says.{says-numbered}
-use Rattle.reader.proofs.Scripts.{decoded-is}
+use Rattle.places.specs.Places.{renumbered}
+use Rattle.places.proofs.Says.{says-numbered}
+use Rattle.values.proofs.Scripts.{decoded-is}
 use Rattle.replay.specs.Stepping.{Sound}
 use Rattle.replay.specs.Answers.{commandsOf, Readable}
 use Rattle.replay.proofs.Scripts.{script-count, command-next}
 use Rattle.replay.proofs.Steps.{byOutcome}
+use Rattle.ordering.specs.Fronts.{Judging}
 use Rattle.judge.specs.SoFar.{lookedAt, noted}
-use Rattle.judge.specs.Fronts.{Judging}
 
 cond-same {ℓ} : {A : Type ℓ} (b : Bool) (a : A) → cond b a a ≡ a
 cond-same true a = refl

@@ -1,5 +1,4 @@
 -- What the judge answers, over the definitions of the crates below.
-pub mod Fronts
 pub mod SoFar
 pub mod Answers
 pub mod Claims

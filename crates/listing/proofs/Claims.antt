@@ -16,23 +16,19 @@ use Rattle.policy.proofs.Replay.{running-list-fits}
 use Rattle.deployment.specs.Values.{Script}
 use Rattle.deployment.specs.Contents.{Contents}
 use Rattle.deployment.specs.File.{Reading, accepted, refused, readFile, needsScript, readToJudge}
-use Rattle.deployment.specs.Properties.{AreBytes, IfThere, Scripted, Valid, fieldsBytes}
+use Rattle.deployment.specs.Properties.{IfThere, Scripted, Valid}
 use Rattle.deployment.specs.declared.Refusal.{Refusal}
 use Rattle.deployment.specs.declared.Why.the-variants.{NoScript}
 use Rattle.deployment.proofs.Values.{byOption, none-some}
-use Rattle.deployment.proofs.Reader.{written-again, refusal-row}
+use Rattle.deployment.proofs.Reader.{written-again}
 use Rattle.replay.specs.Answers.{commandsOf}
-use Rattle.listing.specs.Text.{spacedAll, refusedText, verdictText, planPrinted, judgePrinted}
+use Rattle.lines.specs.Text.{spacedAll, refusedText, verdictText}
+use Rattle.lines.specs.Printing.{IsFile}
+use Rattle.lines.proofs.Lengths.{one-more, none-yet, refused-short, verdict-short, position-inside}
+use Rattle.listing.specs.Text.{planPrinted, judgePrinted}
 use Rattle.listing.specs.Printing.{most-text}
-use Rattle.listing.specs.Claims.{IsFile, PlanTextFits, JudgeTextFits}
-use Rattle.listing.proofs.Lengths.{one-more, none-yet, refused-short, verdict-short}
+use Rattle.listing.specs.Claims.{PlanTextFits, JudgeTextFits}
 use Rattle.listing.proofs.PlanTexts.{plans-short, printed-plans, printed-refusal}
-
--- a refusal's position is inside the file
-pub position-inside : (file : List ℕ) (r : Refusal) → AreBytes file → readFile file ≡ refused r → r .at ≤ length file
-position-inside file r bytes e =
-    let away = refusal-row file r bytes .0 e in
-    omega (arith, away .counted, ap length (away .is), length-append (fieldsBytes (away .fields)) (away .left))
 
 pub plan-text-fits : PlanTextFits
 plan-text-fits file (bytes, short) = go (readFile file) refl

@@ -9,9 +9,10 @@ use Rattle.policy.specs.declared.Verdict.{Verdict}
 use Rattle.deployment.specs.File.{Reading, accepted, refused, readToJudge}
 use Rattle.deployment.specs.declared.Refusal.{Refusal}
 use Rattle.replay.specs.Answers.{commandsOf}
-use Rattle.judge.specs.Answers.{judgedContents, judgedReading}
+use Rattle.entries.specs.Answers.{judgedContents, judgedReading}
 use Rattle.judge.specs.declared.Judged.the-variants.{Said, Turned}
-use Rattle.listing.specs.Text.{refusedText, verdictText, judgePrinted}
+use Rattle.lines.specs.Text.{refusedText, verdictText}
+use Rattle.listing.specs.Text.{judgePrinted}
 
 pub printed-refusal : (file : List ℕ) (refusal : Refusal) → Turned refusal ≡ judgedReading (readToJudge file) → judgePrinted file ≡ refusedText refusal
 unfolding judgePrinted judgedReading judgedContents

@@ -6,34 +6,32 @@ ghost use lib.ListN.{length};
 ghost use Rattle.deployment.specs.Contents.{Contents};
 ghost use Rattle.deployment.specs.File.{accepted, readFile};
 ghost use Rattle.deployment.specs.FieldValues.{leftBy, writing};
+ghost use Rattle.plans.specs.Plans.{Made};
+ghost use Rattle.lines.specs.Text.{blockText};
+ghost use Rattle.lines.specs.Printing.{Puts, Whole, Needed};
 ghost use Rattle.listing.specs.Text.{planPrinted, judgePrinted};
-ghost use Rattle.listing.specs.Printing.{most-text, Whole, Needed};
-use blocks::put_block;
+ghost use Rattle.listing.specs.Printing.{most-text, Reads};
 use deployment::Refusal;
 use deployment::Why;
 use deployment::Written;
-use deployment::listed;
+use entries::files::judge;
+use entries::files::plan_one;
+use entries::files::plan_two;
+use format::HEAD_BYTES;
+use format::listed;
 use judge::Judged;
-use judge::judge_file;
-use outcomes::put_refused;
-use outcomes::put_verdict;
-use planner::plan_one_file;
-use planner::plan_two_file;
+use lines::blocks::put_block;
+use lines::outcomes::put_refused;
+use lines::outcomes::put_verdict;
+use plans::Planned;
+use plans::field::FIELD_BYTES;
 use policy::Command;
 use reader::FileRead;
 use reader::file::read;
 use reader::file::value;
 
-mod blocks;
-pub mod commands;
-pub mod outcomes;
-pub mod words;
-
 // No text is longer: a place of so many bytes is never too small.
 pub const MOST_TEXT: usize = 65536;
-
-// A place of so many bytes has room for every plan's script field.
-const FIELD_BYTES: usize = 5124;
 
 // What `planlist` prints for a file: both plans, or the refusal.
 pub fn plan_text(file: &[u8], place: &mut [u8]) -> Written
@@ -100,26 +98,56 @@ fn put_plans(file: &[u8], place: &mut [u8]) -> usize
     }
 }
 
-// Both plans of an accepted file, whose policies have these lengths.
+// The plans of an accepted file, whose policies have these lengths.
 fn put_both(file: &[u8], initial: usize, target: usize, place: &mut [u8]) -> usize
     requires { ⌜
         ((c : Contents) × (readFile (now file) ≡ accepted c) × (initial ≡ length (c .initial)) × (target ≡ length (c .target))) ⌝ }
     ensures { λ next. ⌜ Whole most-text (now (place .entry)) (planPrinted (now (file .entry))) (now (place .exit)) next ⌝ }
 {
     let mut field = [0u8; FIELD_BYTES];
-    let one = plan_one_file(file, &mut field);
+    let one = plan_one(file, &mut field);
     let kind = Command::APPEND_DELETE as usize;
-    let next = put_block(place, 0, kind, initial, target, one, &field);
-    let two = plan_two_file(file, &mut field);
+    let next = put_plan(place, 0, kind, initial, target, one, &field);
+    let two = plan_two(file, &mut field);
     let other = Command::INSERT_DELETE_MOVE as usize;
-    put_block(place, next, other, initial, target, two, &field)
+    put_plan(place, next, other, initial, target, two, &field)
+}
+
+// The block of a plan that was made, by the script field that was written.
+fn put_plan(
+    place: &mut [u8],
+    at: usize,
+    kind: usize,
+    initial: usize,
+    target: usize,
+    answer: Planned,
+    field: &[u8],
+) -> usize
+    requires { ⌜ ((made : Made) × Reads answer (now field) made) ⌝ }
+    ensures { λ next. ⌜
+        ((made : Made) → Reads answer (now (field .entry)) made
+        → Puts (now (place .entry)) at (blockText kind initial target (made .kept) (made .script .commands)) (now (place .exit)) next) ⌝ }
+{
+    let Planned::Done(plan) = answer else {
+        return at;
+    };
+    let end = plan.bytes;
+    put_block(
+        place,
+        at,
+        kind,
+        initial,
+        target,
+        plan.kept,
+        &field[HEAD_BYTES..end],
+    )
 }
 
 // The text of the verdict, or of the refusal.
 fn put_judged(file: &[u8], place: &mut [u8]) -> usize
     ensures { λ next. ⌜ Whole most-text (now (place .entry)) (judgePrinted (now (file .entry))) (now (place .exit)) next ⌝ }
 {
-    let found = judge_file(file);
+    let found = judge(file);
     match found {
         Judged::Turned(refusal) => put_refused(place, refusal),
         Judged::Said(v) => put_verdict(place, v),

@@ -4,7 +4,8 @@ use mathlib.Core.Path.{_≡_, sym, _∙_}
 use Prim.Native.Nat.{ℕ}
 use mathlib.Core.List.{List}
 use denote.Ref.{now}
-use Rattle.pageoriole.specs.Answers.{Told, Tells, Outcome, Leaves}
+use Rattle.told.proofs.Answers.{one-told}
+use Rattle.pageoriole.specs.Answers.{Outcome, Leaves}
 use Rattle.pageoriole.proofs.files.pageoriole_read.Reads as read
 use Rattle.pageoriole.proofs.files.pageoriole_read_to_judge.Reads as read-to-judge
 use Rattle.pageoriole.proofs.files.pageoriole_decide_file.Reads as decide-file
@@ -24,9 +25,6 @@ use Rattle.pageoriole.proofs.lists.pageoriole_replay.Reads as replay
 use Rattle.pageoriole.proofs.lists.pageoriole_plan_one.Reads as plan-one
 use Rattle.pageoriole.proofs.lists.pageoriole_plan_two.Reads as plan-two
 use Rattle.pageoriole.proofs.lists.pageoriole_judge.Reads as judge
-
-one-told : {t : Told} {r s : ℕ} {before after other : List ℕ} → Tells t r before after → Tells t s before other → (r ≡ s) × (after ≡ other)
-one-told p q = (p .number ∙ sym (q .number), p .answer ∙ sym (q .answer))
 
 one-left : {o : Outcome} {r s : ℕ} {before after other place elsewhere : List ℕ} → Leaves o r before after place → Leaves o s before other elsewhere
     → (r ≡ s) × (after ≡ other) × (place ≡ elsewhere)

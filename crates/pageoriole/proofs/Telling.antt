@@ -1,19 +1,16 @@
--- A caller is told of an entry's answer what the definitions say of it: the answer is the one that the entry's contract names, the words
--- are those of the answer, and they are stored. Assumes nothing.
+-- A C function leaves what the definitions say of the entry's answer: it is told, and the place holds what the entry left there. The law is over the
+-- answer's type and its outcome, so it is the same for every entry that writes. Assumes nothing.
 use Prim.Native.Nat.{ℕ}
-use mathlib.Core.Path.{_≡_, _∙_, ap, subst}
+use mathlib.Core.Path.{_≡_, ap}
 use mathlib.Core.List.{List}
-use Rattle.pageoriole.specs.Answers.{Told, Tells, Outcome, Leaves}
+use Rattle.told.specs.Answers.{Told, Tells}
+use Rattle.told.proofs.Telling.{tells-of}
+use Rattle.pageoriole.specs.Answers.{Outcome, Leaves}
 
-module _ {shown : Told} {n : ℕ} {before after : List ℕ} where
-  pub tells-of : {A : Type 0} (say : A → Told) {answer wanted : A} → answer ≡ wanted → shown ≡ say answer → Tells shown n before after
-      → Tells (say wanted) n before after
-  tells-of say is words told = subst (λ (t : Told). Tells t n before after) (words ∙ ap say is) told
-
-  pub leaves-of : {L : Type 0} (outcome : L → Outcome) {left wanted : L} → left ≡ wanted → shown ≡ (outcome left) .told
-      → Tells shown n before after → Leaves (outcome wanted) n before after ((outcome left) .place)
-  leaves-of {L} outcome is words told =
-      record {
-        tells = tells-of (λ (l : L). (outcome l) .told) is words told;
-        held = ap (λ (l : L). (outcome l) .place) is;
-      }
+pub leaves-of : {L : Type 0} (outcome : L → Outcome) {left wanted : L} {n : ℕ} {before after : List ℕ} → left ≡ wanted
+    → Tells ((outcome left) .told) n before after → Leaves (outcome wanted) n before after ((outcome left) .place)
+leaves-of {L} outcome is told =
+    record {
+      tells = tells-of (λ (l : L). (outcome l) .told) is told;
+      held = ap (λ (l : L). (outcome l) .place) is;
+    }

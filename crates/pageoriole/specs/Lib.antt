@@ -1,2 +1,2 @@
--- What callers in C are told, over the answers of the entries.
+-- What the C functions leave behind, over what a caller is told.
 pub mod Answers

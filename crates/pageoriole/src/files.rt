@@ -3,19 +3,14 @@
 ghost use Rattle.deployment.specs.File.{readFile, readToJudge};
 ghost use Rattle.deployment.specs.FieldValues.{writing};
 ghost use Rattle.reader.specs.Answers.{shown, fileRead};
-ghost use Rattle.planner.specs.Plans.{planned, madeOne, madeTwo};
-ghost use Rattle.judge.specs.Answers.{judgedReading};
+ghost use Rattle.plans.specs.Plans.{madeOne, madeTwo};
+ghost use Rattle.entries.specs.Answers.{planned};
+ghost use Rattle.entries.specs.Answers.{judgedReading};
 ghost use Rattle.entries.specs.Answers.{decidedReading, flowsReading, replayedReading};
 ghost use Rattle.listing.specs.Text.{planPrinted, judgePrinted};
 ghost use Rattle.showing.specs.Text.{showPrinted};
-ghost use Rattle.pageoriole.specs.Answers.{Tells, Leaves, readTold, decidedTold, judgedTold, writeOutcome, replayOutcome, planOutcome, flowOf};
-use super::told::decided_told;
-use super::told::judged_told;
-use super::told::planned_told;
-use super::told::ran_told;
-use super::told::read_told;
-use super::told::tell;
-use super::told::written_told;
+ghost use Rattle.told.specs.Answers.{Tells, readTold, decidedTold, judgedTold};
+ghost use Rattle.pageoriole.specs.Answers.{Leaves, writeOutcome, replayOutcome, planOutcome, flowOf};
 use entries::files::decide;
 use entries::files::decide_flows;
 use entries::files::judge;
@@ -28,6 +23,12 @@ use listing::judge_text;
 use listing::plan_text;
 use policy::Flow;
 use showing::show_text;
+use told::tell_decided;
+use told::tell_judged;
+use told::tell_planned;
+use told::tell_ran;
+use told::tell_read;
+use told::tell_written;
 
 // Reads a file: rules; start and size of initial and target policy; whether there is a keep list, its start and size; and so for the script.
 #[no_mangle]
@@ -35,8 +36,7 @@ pub extern "C" fn pageoriole_read(file: &[u8], answer: &mut [u64]) -> u32
     ensures { λ n. ⌜ Tells (readTold (fileRead (now (file .entry)))) n (now (answer .entry)) (now (answer .exit)) ⌝ }
 {
     let found = read(file);
-    let words = read_told(found);
-    tell(words, answer)
+    tell_read(found, answer)
 }
 
 // The same, for the judge: a file without a script is turned away.
@@ -45,8 +45,7 @@ pub extern "C" fn pageoriole_read_to_judge(file: &[u8], answer: &mut [u64]) -> u
     ensures { λ n. ⌜ Tells (readTold (shown (readToJudge (now (file .entry))))) n (now (answer .entry)) (now (answer .exit)) ⌝ }
 {
     let found = read_to_judge(file);
-    let words = read_told(found);
-    tell(words, answer)
+    tell_read(found, answer)
 }
 
 // Decides a flow by the target policy of the file, if asked for, or else by its initial one: action and place.
@@ -75,8 +74,7 @@ pub extern "C" fn pageoriole_decide_file(
         destination_port,
     };
     let found = decide(file, of_target, flow);
-    let words = decided_told(found);
-    tell(words, answer)
+    tell_decided(found, answer)
 }
 
 // Decides flows by a policy of the file, read once: bytes of the answers, three for each flow of 13, which fill the first bytes of `place`.
@@ -95,8 +93,7 @@ pub extern "C" fn pageoriole_decide_flows_file(
         ⌝ }
 {
     let found = decide_flows(file, of_target, flows, place);
-    let words = written_told(found);
-    tell(words, answer)
+    tell_written(found, answer)
 }
 
 // Replays the script of the file: bytes of the last list, which fills the first bytes of `place`; or 20 to 23 and the step.
@@ -109,8 +106,7 @@ pub extern "C" fn pageoriole_replay_file(file: &[u8], place: &mut [u8], answer: 
         ⌝ }
 {
     let found = replay(file, place);
-    let words = ran_told(found);
-    tell(words, answer)
+    tell_ran(found, answer)
 }
 
 // Plans by append and delete: rules kept, commands and bytes of the script field, which fills the first bytes of `place`.
@@ -123,8 +119,7 @@ pub extern "C" fn pageoriole_plan_one_file(file: &[u8], place: &mut [u8], answer
         ⌝ }
 {
     let found = plan_one(file, place);
-    let words = planned_told(found);
-    tell(words, answer)
+    tell_planned(found, answer)
 }
 
 // Plans by insert, delete and move.
@@ -137,8 +132,7 @@ pub extern "C" fn pageoriole_plan_two_file(file: &[u8], place: &mut [u8], answer
         ⌝ }
 {
     let found = plan_two(file, place);
-    let words = planned_told(found);
-    tell(words, answer)
+    tell_planned(found, answer)
 }
 
 // Judges the script of the file: the verdict's number, and its values.
@@ -147,8 +141,7 @@ pub extern "C" fn pageoriole_judge_file(file: &[u8], answer: &mut [u64]) -> u32
     ensures { λ n. ⌜ Tells (judgedTold (judgedReading (readToJudge (now (file .entry))))) n (now (answer .entry)) (now (answer .exit)) ⌝ }
 {
     let found = judge(file);
-    let words = judged_told(found);
-    tell(words, answer)
+    tell_judged(found, answer)
 }
 
 // What `planlist` prints for the file, in the first bytes of `place`: bytes. A file that is turned away has a text too.
@@ -161,8 +154,7 @@ pub extern "C" fn pageoriole_plan_text(file: &[u8], place: &mut [u8], answer: &m
         ⌝ }
 {
     let found = plan_text(file, place);
-    let words = written_told(found);
-    tell(words, answer)
+    tell_written(found, answer)
 }
 
 // What `judgelist` prints for the file.
@@ -175,8 +167,7 @@ pub extern "C" fn pageoriole_judge_text(file: &[u8], place: &mut [u8], answer: &
         ⌝ }
 {
     let found = judge_text(file, place);
-    let words = written_told(found);
-    tell(words, answer)
+    tell_written(found, answer)
 }
 
 // What `showlist` prints for the file.
@@ -189,6 +180,5 @@ pub extern "C" fn pageoriole_show_text(file: &[u8], place: &mut [u8], answer: &m
         ⌝ }
 {
     let found = show_text(file, place);
-    let words = written_told(found);
-    tell(words, answer)
+    tell_written(found, answer)
 }

@@ -3,4 +3,3 @@
 
 mod files;
 mod lists;
-mod told;

@@ -3,29 +3,16 @@
 
 ghost use mathlib.Core.Bool.{true};
 ghost use Rattle.deployment.specs.FieldValues.{readValues, valuesRead};
-ghost use Rattle.reader.specs.Answers.{checking, valuesGiven};
-ghost use Rattle.writer.specs.Answers.{writtenValues};
-ghost use Rattle.planner.specs.Plans.{planned, madeOne, madeTwo};
-ghost use Rattle.judge.specs.Answers.{judgedReading};
-ghost use Rattle.entries.specs.Answers.{decidingValues, decidedValues, decidedAtZero, flowsAtZero, replayedValues, replayedAtZero};
-ghost use Rattle.pageoriole.specs.Answers.{
-  Tells,
-  Leaves,
-  checkedTold,
-  decidedTold,
-  judgedTold,
-  writeOutcome,
-  replayOutcome,
-  planOutcome,
-  flowOf,
-};
-use super::told::checked_told;
-use super::told::decided_told;
-use super::told::judged_told;
-use super::told::planned_told;
-use super::told::ran_told;
-use super::told::tell;
-use super::told::written_told;
+ghost use Rattle.catalogue.specs.Answers.{checking};
+ghost use Rattle.values.specs.Answers.{valuesGiven};
+ghost use Rattle.entries.specs.Answers.{writtenValues};
+ghost use Rattle.plans.specs.Plans.{madeOne, madeTwo};
+ghost use Rattle.entries.specs.Answers.{planned};
+ghost use Rattle.entries.specs.Answers.{judgedReading};
+ghost use Rattle.entries.specs.Answers.{decidingValues, decidedValues, decidedAtZero, flowsAtZero, replayedValues};
+ghost use Rattle.last_list.specs.Last.{replayedAtZero};
+ghost use Rattle.told.specs.Answers.{Tells, checkedTold, decidedTold, judgedTold};
+ghost use Rattle.pageoriole.specs.Answers.{Leaves, writeOutcome, replayOutcome, planOutcome, flowOf};
 use entries::lists::check;
 use entries::lists::decide;
 use entries::lists::decide_flows;
@@ -35,6 +22,12 @@ use entries::lists::plan_two;
 use entries::lists::replay;
 use entries::lists::write;
 use policy::Flow;
+use told::tell_checked;
+use told::tell_decided;
+use told::tell_judged;
+use told::tell_planned;
+use told::tell_ran;
+use told::tell_written;
 
 // Whether field values pass.
 #[no_mangle]
@@ -56,8 +49,7 @@ pub extern "C" fn pageoriole_check(
         ⌝ }
 {
     let found = check(rules, initial, target, has_keep, keep, has_script, script);
-    let words = checked_told(found);
-    tell(words, answer)
+    tell_checked(found, answer)
 }
 
 // Writes the file of the field values into the first bytes of `place`: bytes.
@@ -91,8 +83,7 @@ pub extern "C" fn pageoriole_write(
         script,
         place,
     );
-    let words = written_told(found);
-    tell(words, answer)
+    tell_written(found, answer)
 }
 
 // Decides a flow by a policy: action and place.
@@ -122,8 +113,7 @@ pub extern "C" fn pageoriole_decide(
         destination_port,
     };
     let found = decide(rules, policy, flow);
-    let words = decided_told(found);
-    tell(words, answer)
+    tell_decided(found, answer)
 }
 
 // Decides flows by a policy, tested once: bytes of the answers, three for each flow of 13, which fill the first bytes of `place`.
@@ -142,8 +132,7 @@ pub extern "C" fn pageoriole_decide_flows(
         ⌝ }
 {
     let found = decide_flows(rules, policy, flows, place);
-    let words = written_told(found);
-    tell(words, answer)
+    tell_written(found, answer)
 }
 
 // Replays a script from a policy: bytes of the last list, which fills the first bytes of `place`; or 20 to 23 and the step.
@@ -162,8 +151,7 @@ pub extern "C" fn pageoriole_replay(
         ⌝ }
 {
     let found = replay(rules, initial, script, place);
-    let words = ran_told(found);
-    tell(words, answer)
+    tell_ran(found, answer)
 }
 
 // Plans by append and delete: rules kept, commands and bytes of the script field, which fills the first bytes of `place`.
@@ -197,8 +185,7 @@ pub extern "C" fn pageoriole_plan_one(
         script,
         place,
     );
-    let words = planned_told(found);
-    tell(words, answer)
+    tell_planned(found, answer)
 }
 
 // Plans by insert, delete and move.
@@ -232,8 +219,7 @@ pub extern "C" fn pageoriole_plan_two(
         script,
         place,
     );
-    let words = planned_told(found);
-    tell(words, answer)
+    tell_planned(found, answer)
 }
 
 // Judges a script: the verdict's number, and its values.
@@ -255,6 +241,5 @@ pub extern "C" fn pageoriole_judge(
         ⌝ }
 {
     let found = judge(rules, initial, target, has_keep, keep, script);
-    let words = judged_told(found);
-    tell(words, answer)
+    tell_judged(found, answer)
 }

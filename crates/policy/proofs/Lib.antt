@@ -23,4 +23,3 @@ pub mod InsertDeleteMove
 pub mod Plans
 pub mod Examples
 pub mod Traps
-pub mod Answers

@@ -1,8 +1,8 @@
 // The words of document 01 that carry values: flows, decisions, commands, faults, verdicts.
 // What the words mean is in specs/, and every crate above uses these types.
 
-ghost use mathlib.Core.Path.{_≡_};
-ghost use Rattle.policy.specs.Command.{faultNumber};
+// "at most 1,024 rules in the catalogue"; a running list has no more, "since its rules differ"
+pub const MOST_RULES: usize = 1024;
 
 // What a rule says, and what a flow gets.
 pub enum Action {
@@ -57,20 +57,6 @@ pub enum Fault {
     Absent,
     Place,
     Number,
-}
-
-impl Fault {
-    // The table's number.
-    pub fn number(self) -> u8
-        ensures { λ n. ⌜ n ≡ faultNumber self ⌝ }
-    {
-        match self {
-            Fault::Present => 20,
-            Fault::Absent => 21,
-            Fault::Place => 22,
-            Fault::Number => 23,
-        }
-    }
 }
 
 // What the judge says: numbers 20 to 24, 30, 31 and 32.

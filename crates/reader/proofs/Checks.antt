@@ -4,7 +4,7 @@ use Prim.Native.Nat.{ℕ, _≤_, min}
 use native.Mathlib.Omega.{arith}
 use mathlib.Core.Path.{_≡_, refl, sym, _∙_, ap, subst}
 use mathlib.Core.Bool.{true}
-use mathlib.Core.Logic.{_⊎_, ⊎-elim}
+use mathlib.Core.Logic.{_⊎_, inl, inr, ⊎-elim}
 use mathlib.Core.List.{List, [], _∷_}
 use mathlib.Core.Option.{Option, none, some}
 use lib.ListN.{length, take, drop}
@@ -50,7 +50,7 @@ use Rattle.deployment.specs.Properties.{
 use Rattle.deployment.proofs.Bytes.{length-part}
 use Rattle.deployment.proofs.Tests.{says-list, says-script}
 use Rattle.deployment.proofs.Values.{policy-numbers}
-use Rattle.deployment.proofs.Fields.{script-left}
+use Rattle.deployment.proofs.Fields.{by-tag}
 use Rattle.deployment.proofs.Taken.{
   FieldRight,
   field-right,
@@ -60,11 +60,12 @@ use Rattle.deployment.proofs.Taken.{
   list-size,
   script-size,
 }
-use Rattle.reader.specs.Answers.{checking, ruleValue, valueAt}
+use Rattle.catalogue.specs.Answers.{checking, ruleValue}
+use Rattle.reader.specs.Answers.{valueAt}
 use Rattle.reader.specs.Steps.{progressOf, Begun}
 use Rattle.reader.specs.declared.file.Progress.{Progress}
-use Rattle.reader.proofs.Given.{checking-last}
-use Rattle.reader.proofs.Places.{initial-stands, target-stands, catalogue-first}
+use Rattle.values.proofs.Given.{checking-last}
+use Rattle.reader.proofs.ValuePlaces.{initial-stands, target-stands, catalogue-first}
 use Rattle.reader.proofs.Heads.{same-count}
 
 -- The field that was read: whole, and of the right length.
@@ -109,9 +110,12 @@ module _
   right : RightLength tag (length value)
   right = read-right f (drop (progress .at) file) tag value read
 
+  stands : CanStand f tag
+  stands = read-stands f (drop (progress .at) file) tag value read
+
   same-catalogue : take (progress .layout .rules) (catalogueOf 3 file) ≡ f .catalogue
   same-catalogue =
-      rw (← same-count file progress f b, b .is)
+      rw (same-count file progress f b, b .is)
       (catalogue-first f (drop (length (fieldsBytes f)) file) (b .readable .catalogue .recordable))
 
   pub checked-rule : tag ≡ rule-tag
@@ -125,19 +129,24 @@ module _
   list-fits : ¬ (tag ≡ rule-tag) → ¬ (tag ≡ script-tag) → listFits (length value) ≡ true
   list-fits n m = says-list (length value) .1 (list-size n m right)
 
-  pub checked-policy : (tag ≡ initial-tag) ⊎ (tag ≡ target-tag)
+  -- a policy's tag is what is left
+  policy-left : ¬ (tag ≡ rule-tag) → ¬ (tag ≡ keep-tag) → ¬ (tag ≡ script-tag) → (tag ≡ initial-tag) ⊎ (tag ≡ target-tag)
+  policy-left r k s =
+      by-tag (λ x. tag ≡ x → (tag ≡ initial-tag) ⊎ (tag ≡ target-tag)) (lastTag f) stands
+      (λ e. absurd (r e)) (λ e. inl e) (λ e. inr e) (λ e. absurd (k e)) (λ e. absurd (s e)) refl
+
+  pub checked-policy : ¬ (tag ≡ rule-tag) → ¬ (tag ≡ keep-tag) → ¬ (tag ≡ script-tag)
       → checking (policyValue (min (progress .layout .rules) 1024) value)
       ≡ checking (withField f (record { tag = tag; value = value }))
   unfolding policyValue withField withPolicy
-  checked-policy which =
+  checked-policy r k s =
       let few : min (progress .layout .rules) 1024 ≡ length (f .catalogue) =
       omega (arith, same-count file progress f b, b .readable .catalogue .few) in
-      let fits = list-fits (⊎-elim (λ e. omega arith) (λ e. omega arith) which) (⊎-elim (λ e. omega arith) (λ e. omega arith) which) in
-      rw (few, fits)
+      rw (few, list-fits r s)
       (⊎-elim
       (λ e. rw (with-tag f value {tag = tag} {x = initial-tag} e) (checking-last (policyRead (length (f .catalogue)) value) _))
       (λ e. rw (with-tag f value {tag = tag} {x = target-tag} e) (checking-last (policyRead (length (f .catalogue)) value) _))
-      which)
+      (policy-left r k s))
 
   same-initial : numbersOf (valueAt (progress .layout .initial) file) ≡ listed (f .initial)
   unfolding progressOf
@@ -163,10 +172,8 @@ module _
       (sym (checking-last (keepRead (listed (f .initial)) (listed (f .target)) value) _)
       ∙ checking-last (keepRead (listed (f .initial)) (listed (f .target)) value) _)
 
-  pub checked-script : ¬ (tag ≡ rule-tag) → ¬ (tag ≡ initial-tag) → ¬ (tag ≡ target-tag) → ¬ (tag ≡ keep-tag)
-      → checking (scriptValue (some value)) ≡ checking (withField f (record { tag = tag; value = value }))
+  pub checked-script : tag ≡ script-tag → checking (scriptValue (some value)) ≡ checking (withField f (record { tag = tag; value = value }))
   unfolding scriptValue withField withScript
-  checked-script r i t k =
-      let e = script-left (lastTag f) (read-stands f (drop (progress .at) file) tag value read) r i t k in
+  checked-script e =
       rw (with-tag f value e, says-script (length value) .1 (script-size e right))
       (sym (checking-last (scriptRead value) _) ∙ checking-last (scriptRead value) _)

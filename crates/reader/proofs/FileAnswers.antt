@@ -26,7 +26,7 @@ use Rattle.reader.specs.declared.Span.{Span}
 use Rattle.reader.specs.declared.Layout.{Layout}
 use Rattle.reader.specs.declared.FileRead.{FileRead}
 use Rattle.reader.specs.declared.FileRead.the-variants.{Accepted}
-use Rattle.reader.proofs.Places.{
+use Rattle.reader.proofs.ValuePlaces.{
   initial-stands,
   target-stands,
   keep-stands,

@@ -17,7 +17,8 @@ use Rattle.deployment.specs.Properties.{AreBytes, IfThere}
 use Rattle.deployment.specs.Claims.{valuesOf}
 use Rattle.deployment.proofs.Bytes.{from-the-end}
 use Rattle.deployment.proofs.Fields.{joined-snoc, map-snoc}
-use Rattle.reader.specs.Answers.{given, valuesGiven, valueAt, there, rulesGathered, valuesGathered}
+use Rattle.values.specs.Answers.{given, valuesGiven, there}
+use Rattle.reader.specs.Answers.{valueAt, rulesGathered, valuesGathered}
 use Rattle.reader.specs.Claims.{ListStands, ScriptStands, Stands, GatheredFile}
 use Rattle.reader.specs.declared.Span.{Span}
 use Rattle.reader.specs.declared.Layout.{Layout}

@@ -12,16 +12,15 @@ use borrow.Author.Tests.{eqb-true, eqb-false, eq-eqb, ne-eqb, le-leb, lt-leb}
 use Rattle.policy.specs.Lists.{mem}
 use Rattle.policy.specs.Policy.{most-rules}
 use Rattle.policy.proofs.Tests.{byTest}
-use Rattle.deployment.specs.Bytes.{number, part}
+use Rattle.deployment.specs.Bytes.{number, part, numberAt}
 use Rattle.deployment.specs.File.{Fields, Field, tagsAfter, lastTag, lengthFits, fieldRead, rule-tag}
 use Rattle.deployment.specs.Properties.{tagOf, sizeOf}
 use Rattle.deployment.specs.declared.Why.the-variants.{Cut, Tag, Length, TooMany}
 use Rattle.deployment.proofs.Bytes.{length-part}
-use Rattle.deployment.proofs.Records.{number-one, part-elements}
+use Rattle.deployment.proofs.Records.{number-one, part-elements, number-there}
 use Rattle.reader.specs.Steps.{layoutSoFar, progressOf, Begun, headShown}
 use Rattle.reader.specs.declared.file.Progress.{Progress}
 use Rattle.reader.specs.declared.file.Head.the-variants as head
-use Rattle.reader.specs.declared.Checking.the-variants.{Bad}
 
 pub eqb-swap : (a b : ℕ) → eqb a b ≡ eqb b a
 eqb-swap a b =
@@ -47,74 +46,66 @@ module _ (file : List ℕ) (at : ℕ) (headed : 3 ≤ length file - at) where
   unfolding part
   tag-at = ap number (part-elements at 0 file (omega arith)) ∙ sym (number-one (getD file at 0))
 
-  size-at : sizeOf (drop at file) ≡ number (getD file (at + 1) 0 ∷ getD file (at + 2) 0 ∷ [])
+  size-at : sizeOf (drop at file) ≡ numberAt (at + 1) 2 file
   unfolding part
-  size-at =
-      let further : at + 1 + 1 ≡ at + 2 = omega arith in
-      ap number (rw drop-drop (part-elements (at + 1) 1 file (omega arith) ∙ rw further))
+  size-at = rw drop-drop (sym (number-there (at + 1) 2 file (omega arith)))
 
 -- The tests of a head, in their order.
-module _ (file : List ℕ) (progress : Progress) (f : Fields) (b : Begun file progress f) where
-  same-last : lastTag f ≡ progress .last
-  unfolding progressOf
-  same-last = sym (ap (λ (p : Progress). p .last) (b .known))
-
-  pub same-count : length (f .catalogue) ≡ progress .layout .rules
-  unfolding progressOf layoutSoFar
-  same-count = sym (ap (λ (p : Progress). p .layout .rules) (b .known))
-
-  pub few-rules : progress .layout .rules ≤ most-rules
-  few-rules = omega (arith, same-count, b .readable .catalogue .few)
-
-  pub head-cut : length file - progress .at < 3 → head.Bad Cut ≡ headShown (fieldRead f (drop (progress .at) file))
+module _ (file : List ℕ) (at last rules : ℕ) (f : Fields) (same-last : last ≡ lastTag f) (same-rules : rules ≡ length (f .catalogue)) where
+  pub head-cut : length file - at < 3 → head.Bad Cut ≡ headShown (fieldRead f (drop at file))
   unfolding fieldRead headShown
-  head-cut h = rw (lt-leb 3 (length (drop (progress .at) file)) (rw length-drop h))
+  head-cut h = rw (lt-leb 3 (length (drop at file)) (rw length-drop h))
 
-  module _ (headed : 3 ≤ length file - progress .at) where
-    headed-test : leb 3 (length (drop (progress .at) file)) ≡ true
-    headed-test = le-leb 3 (length (drop (progress .at) file)) (rw length-drop headed)
+  module _ (headed : 3 ≤ length file - at) where
+    headed-test : leb 3 (length (drop at file)) ≡ true
+    headed-test = le-leb 3 (length (drop at file)) (rw length-drop headed)
 
-    stands-test : mem (tagOf (drop (progress .at) file)) (tagsAfter (lastTag f))
-        ≡ mem (getD file (progress .at) 0) (tagsAfter (progress .last))
-    stands-test = rw (tag-at file (progress .at) headed, same-last)
+    stands-test : mem (tagOf (drop at file)) (tagsAfter (lastTag f)) ≡ mem (getD file at 0) (tagsAfter last)
+    stands-test = rw (tag-at file at headed, same-last)
 
-    pub head-tag : mem (getD file (progress .at) 0) (tagsAfter (progress .last)) ≡ false
-        → head.Bad Tag ≡ headShown (fieldRead f (drop (progress .at) file))
+    pub head-tag : mem (getD file at 0) (tagsAfter last) ≡ false → head.Bad Tag ≡ headShown (fieldRead f (drop at file))
     unfolding fieldRead headShown
     head-tag e = rw (headed-test, stands-test, e)
 
-    module _ (stands : mem (getD file (progress .at) 0) (tagsAfter (progress .last)) ≡ true) where
-      pub head-too-many : (eqb (getD file (progress .at) 0) rule-tag && leb most-rules (progress .layout .rules)) ≡ true
-          → head.Bad TooMany ≡ headShown (fieldRead f (drop (progress .at) file))
+    module _ (stands : mem (getD file at 0) (tagsAfter last) ≡ true) where
+      pub head-too-many : (eqb (getD file at 0) rule-tag && leb most-rules rules) ≡ true
+          → head.Bad TooMany ≡ headShown (fieldRead f (drop at file))
       unfolding fieldRead headShown
-      head-too-many e = rw (headed-test, stands-test, stands, tag-at file (progress .at) headed, same-count, e)
+      head-too-many e = rw (headed-test, stands-test, stands, tag-at file at headed, ← same-rules, e)
 
-      module _
-          (few : (eqb (getD file (progress .at) 0) rule-tag && leb most-rules (progress .layout .rules)) ≡ false)
-          (size : ℕ)
-          (is : size ≡ number (getD file (progress .at + 1) 0 ∷ getD file (progress .at + 2) 0 ∷ [])) where
-        same-size : sizeOf (drop (progress .at) file) ≡ size
-        same-size = size-at file (progress .at) headed ∙ sym is
+      module _ (few : (eqb (getD file at 0) rule-tag && leb most-rules rules) ≡ false) (size : ℕ) (is : size ≡ numberAt (at + 1) 2 file) where
+        same-size : sizeOf (drop at file) ≡ size
+        same-size = size-at file at headed ∙ sym is
 
-        pub head-length : lengthFits (getD file (progress .at) 0) size ≡ false
-            → head.Bad Length ≡ headShown (fieldRead f (drop (progress .at) file))
+        pub head-length : lengthFits (getD file at 0) size ≡ false → head.Bad Length ≡ headShown (fieldRead f (drop at file))
         unfolding fieldRead headShown
-        head-length e = rw (headed-test, stands-test, stands, tag-at file (progress .at) headed, same-count, few, same-size, e)
+        head-length e = rw (headed-test, stands-test, stands, tag-at file at headed, ← same-rules, few, same-size, e)
 
-        module _ (fits : lengthFits (getD file (progress .at) 0) size ≡ true) where
-          pub head-short : length file - progress .at < 3 + size
-              → head.Bad Cut ≡ headShown (fieldRead f (drop (progress .at) file))
+        module _ (fits : lengthFits (getD file at 0) size ≡ true) where
+          pub head-short : length file - at < 3 + size → head.Bad Cut ≡ headShown (fieldRead f (drop at file))
           unfolding fieldRead headShown
           head-short h =
-              let short = lt-leb (3 + size) (length (drop (progress .at) file)) (rw length-drop h) in
-              rw (headed-test, stands-test, stands, tag-at file (progress .at) headed, same-count, few, same-size, fits, short)
+              let short = lt-leb (3 + size) (length (drop at file)) (rw length-drop h) in
+              rw (headed-test, stands-test, stands, tag-at file at headed, ← same-rules, few, same-size, fits, short)
 
-          pub head-whole : 3 + size ≤ length file - progress .at
-              → head.Field (getD file (progress .at) 0) size ≡ headShown (fieldRead f (drop (progress .at) file))
+          pub head-whole : 3 + size ≤ length file - at → head.Field (getD file at 0) size ≡ headShown (fieldRead f (drop at file))
           unfolding fieldRead headShown
           head-whole h =
-              let left = drop (progress .at) file in
+              let left = drop at file in
               let long : 3 + size ≤ length left = rw length-drop h in
               let whole = le-leb (3 + size) (length left) long in
-              rw (headed-test, stands-test, stands, tag-at file (progress .at) headed, same-count, few, same-size, fits, whole)
+              rw (headed-test, stands-test, stands, tag-at file at headed, ← same-rules, few, same-size, fits, whole)
               (rw (length-part 3 size left long))
+
+-- What the reader knows of the fields so far.
+module _ (file : List ℕ) (progress : Progress) (f : Fields) (b : Begun file progress f) where
+  pub same-tag : progress .last ≡ lastTag f
+  unfolding progressOf
+  same-tag = ap (λ (p : Progress). p .last) (b .known)
+
+  pub same-count : progress .layout .rules ≡ length (f .catalogue)
+  unfolding progressOf layoutSoFar
+  same-count = ap (λ (p : Progress). p .layout .rules) (b .known)
+
+  pub few-rules : progress .layout .rules ≤ most-rules
+  few-rules = omega (arith, same-count, b .readable .catalogue .few)

@@ -3,7 +3,7 @@
 use Prim.Native.Nat.{ℕ, _+_}
 use native.Mathlib.Omega.{arith}
 use mathlib.Core.Path.{_≡_, refl, _∙_, ap}
-use mathlib.Core.Bool.{true}
+use mathlib.Core.Bool.{Bool, true}
 use mathlib.Core.List.{List, [], _∷_, _++_}
 use lib.ListN.{length, length-append}
 use Rattle.deployment.specs.Checked.{Checked, good, bad, _>>=_}
@@ -41,11 +41,12 @@ use Rattle.deployment.proofs.Fields.{
   bytes-with-script,
 }
 use Rattle.deployment.proofs.ReadBack.{length-field}
-use Rattle.reader.specs.Answers.{spanFrom, spanIf, endOf, there, keepBytes, commandBytes}
+use Rattle.values.specs.Answers.{there}
+use Rattle.reader.specs.Answers.{spanFrom, spanIf, endOf, keepBytes, commandBytes}
 use Rattle.reader.specs.Steps.{layoutSoFar, More, a-rule, an-initial, a-target, a-keep, a-script}
 use Rattle.reader.specs.declared.Layout.{Layout}
 use Rattle.reader.specs.declared.Span.{Span}
-use Rattle.reader.proofs.Places.{fields-end}
+use Rattle.reader.proofs.ValuePlaces.{fields-end}
 
 -- Its bytes, its tag and its place.
 pub more-bytes : {f g : Fields} {tag : ℕ} {value : List ℕ} → More f tag value g
@@ -71,86 +72,54 @@ more-stands (a-target t h) = h
 more-stands (a-keep k h) = h
 more-stands (a-script s h) = h
 
+-- a layout, place by place
+abbrev places : ℕ → Span → Span → Bool → Span → Bool → Span → Layout
+places rules initial target has-keep keep has-script script =
+    record {
+      rules = rules;
+      initial = initial;
+      target = target;
+      «has_keep» = has-keep;
+      keep = keep;
+      «has_script» = has-script;
+      script = script;
+    }
+
 -- the places with that of one more value, by its tag
-module _ (layout : Layout) (span : Span) where
-  pub placed-rule : {f g : Fields} {value : List ℕ} → More f rule-tag value g → layout ≡ layoutSoFar f
-      → _≡_ {A = Layout}
-      (record {
-        rules = layout .rules + 1;
-        initial = layout .initial;
-        target = layout .target;
-        «has_keep» = layout .«has_keep»;
-        keep = layout .keep;
-        «has_script» = layout .«has_script»;
-        script = layout .script;
-      })
-      (layoutSoFar g)
+module _ (l : Layout) (span : Span) where
+  pub placed-rule : {f g : Fields} {value : List ℕ} → More f rule-tag value g → l ≡ layoutSoFar f
+      → places (l .rules + 1) (l .initial) (l .target) (l .«has_keep») (l .keep) (l .«has_script») (l .script)
+      ≡ layoutSoFar g
   unfolding layoutSoFar keepBytes commandBytes spanIf endOf there
-  placed-rule {f} (a-rule rule h) l = let n = before-rule f h in rw (l, length-append (f .catalogue) (rule ∷ []), n .0, n .1, n .2, n .3)
+  placed-rule {f} (a-rule rule h) known = let n = before-rule f h in rw (known, length-append (f .catalogue) (rule ∷ []), n .0, n .1, n .2, n .3)
 
-  pub placed-initial : {f g : Fields} {value : List ℕ} → More f initial-tag value g → layout ≡ layoutSoFar f
+  pub placed-initial : {f g : Fields} {value : List ℕ} → More f initial-tag value g → l ≡ layoutSoFar f
       → span ≡ spanFrom (length (fieldsBytes f)) value
-      → _≡_ {A = Layout}
-      (record {
-        rules = layout .rules;
-        initial = span;
-        target = layout .target;
-        «has_keep» = layout .«has_keep»;
-        keep = layout .keep;
-        «has_script» = layout .«has_script»;
-        script = layout .script;
-      })
-      (layoutSoFar g)
+      → places (l .rules) span (l .target) (l .«has_keep») (l .keep) (l .«has_script») (l .script)
+      ≡ layoutSoFar g
   unfolding layoutSoFar keepBytes commandBytes spanIf endOf there
-  placed-initial {f} (an-initial i h) l w = let n = before-initial f h in rw (l, w, fields-end f, n .0, n .1, n .2, n .3)
+  placed-initial {f} (an-initial i h) known w = let n = before-initial f h in rw (known, w, fields-end f, n .0, n .1, n .2, n .3)
 
-  pub placed-target : {f g : Fields} {value : List ℕ} → More f target-tag value g → layout ≡ layoutSoFar f
+  pub placed-target : {f g : Fields} {value : List ℕ} → More f target-tag value g → l ≡ layoutSoFar f
       → span ≡ spanFrom (length (fieldsBytes f)) value
-      → _≡_ {A = Layout}
-      (record {
-        rules = layout .rules;
-        initial = layout .initial;
-        target = span;
-        «has_keep» = layout .«has_keep»;
-        keep = layout .keep;
-        «has_script» = layout .«has_script»;
-        script = layout .script;
-      })
-      (layoutSoFar g)
+      → places (l .rules) (l .initial) span (l .«has_keep») (l .keep) (l .«has_script») (l .script)
+      ≡ layoutSoFar g
   unfolding layoutSoFar keepBytes commandBytes spanIf endOf there
-  placed-target {f} (a-target t h) l w = let n = before-target f h in rw (l, w, fields-end f, n .0, n .1, n .2)
+  placed-target {f} (a-target t h) known w = let n = before-target f h in rw (known, w, fields-end f, n .0, n .1, n .2)
 
-  pub placed-keep : {f g : Fields} {value : List ℕ} → More f keep-tag value g → layout ≡ layoutSoFar f
+  pub placed-keep : {f g : Fields} {value : List ℕ} → More f keep-tag value g → l ≡ layoutSoFar f
       → span ≡ spanFrom (length (fieldsBytes f)) value
-      → _≡_ {A = Layout}
-      (record {
-        rules = layout .rules;
-        initial = layout .initial;
-        target = layout .target;
-        «has_keep» = true;
-        keep = span;
-        «has_script» = layout .«has_script»;
-        script = layout .script;
-      })
-      (layoutSoFar g)
+      → places (l .rules) (l .initial) (l .target) true span (l .«has_script») (l .script)
+      ≡ layoutSoFar g
   unfolding layoutSoFar keepBytes commandBytes spanIf endOf there
-  placed-keep {f} (a-keep k h) l w = let n = before-keep f h in rw (l, w, fields-end f, n .0, n .1)
+  placed-keep {f} (a-keep k h) known w = let n = before-keep f h in rw (known, w, fields-end f, n .0, n .1)
 
-  pub placed-script : {f g : Fields} {value : List ℕ} → More f script-tag value g → layout ≡ layoutSoFar f
+  pub placed-script : {f g : Fields} {value : List ℕ} → More f script-tag value g → l ≡ layoutSoFar f
       → span ≡ spanFrom (length (fieldsBytes f)) value
-      → _≡_ {A = Layout}
-      (record {
-        rules = layout .rules;
-        initial = layout .initial;
-        target = layout .target;
-        «has_keep» = layout .«has_keep»;
-        keep = layout .keep;
-        «has_script» = true;
-        script = span;
-      })
-      (layoutSoFar g)
+      → places (l .rules) (l .initial) (l .target) (l .«has_keep») (l .keep) true span
+      ≡ layoutSoFar g
   unfolding layoutSoFar keepBytes commandBytes spanIf endOf there
-  placed-script {f} (a-script s h) l w = let n = before-script f h in rw (l, w, fields-end f, n)
+  placed-script {f} (a-script s h) known w = let n = before-script f h in rw (known, w, fields-end f, n)
 
 -- Fields with one more, where the tests of its value passed.
 grown : {A : Type 0} {f : Fields} {tag : ℕ} (read : Checked A) (with : A → Fields) (written : A → List ℕ) (g : Fields)

@@ -43,17 +43,18 @@ use Rattle.deployment.proofs.Fields.{fields, late}
 use Rattle.deployment.proofs.Taken.{rule-size, ValueRight, taken, taken-right}
 use Rattle.deployment.proofs.ReadBack.{read-through}
 use Rattle.deployment.proofs.Reader.{nothing-readable, refusal-row}
-use Rattle.reader.specs.Answers.{checking, valueAt, spanFrom, spanIf, keepBytes, layoutOf, shown, fileRead}
-use Rattle.reader.specs.Marks.{Apart}
+use Rattle.catalogue.specs.Answers.{checking}
+use Rattle.reader.specs.Answers.{valueAt, spanFrom, spanIf, keepBytes, layoutOf, shown, fileRead}
+use Rattle.catalogue.specs.RuleMarks.{Apart}
 use Rattle.reader.specs.Steps.{layoutSoFar, progressOf, Begun, More, headShown, stepShown, stepFrom}
 use Rattle.reader.specs.declared.FileRead.the-variants.{Accepted, Refused}
 use Rattle.reader.specs.declared.Layout.{Layout}
 use Rattle.reader.specs.declared.Span.{Span}
 use Rattle.reader.specs.declared.file.Progress.{Progress}
 use Rattle.reader.specs.declared.file.Head.the-variants as head
-use Rattle.reader.specs.declared.Checking.the-variants.{Good, Bad}
+use Rattle.catalogue.specs.declared.Checking.the-variants.{Good, Bad}
 use Rattle.reader.specs.declared.file.Step.the-variants as step
-use Rattle.reader.proofs.Places.{rules-alone}
+use Rattle.reader.proofs.ValuePlaces.{rules-alone}
 use Rattle.reader.proofs.Heads.{same-count}
 use Rattle.reader.proofs.Checks.{read-whole, read-field, read-long, read-right, read-stands}
 use Rattle.reader.proofs.OneMore.{more-last, more-of, more-long}
@@ -159,7 +160,7 @@ module _ (file : List ℕ) (progress : Progress) (f : Fields) (b : Begun file pr
       let long : size ≡ 27 =
       omega (arith, right, read-long f left tag value read, headed-field f left tag size found .2) in
       let at-rule : progress .at ≡ progress .layout .rules * 30 =
-      position ∙ rules-alone f stands ∙ ap (λ (n : ℕ). n * 30) (same-count file progress f b) in
+      position ∙ rules-alone f stands ∙ ap (λ (n : ℕ). n * 30) (sym (same-count file progress f b)) in
       subst (λ (v : List ℕ). known (ruleOf v) (take (progress .layout .rules) (catalogueOf 3 file)) ≡ false)
       (ap (λ (at : ℕ). part (at + 3) 27 file) (sym at-rule) ∙ ap (λ (n : ℕ). part (progress .at + 3) n file) (sym long) ∙ sym is)
       (apart (progress .layout .rules) below)

@@ -7,26 +7,20 @@ use mathlib.Core.Logic.{_⊎_, inl, inr, ⊎-elim, _↔_}
 use mathlib.Core.List.{[], _∷_}
 use lib.ListN.{length}
 use denote.Ref.{now}
-use borrow.Fn.World.{ArgsD}
 use Rattle.deployment.specs.Checked.{refusalNumbers}
 use Rattle.deployment.specs.File.{Reading, accepted, refused, readingNumbers, readFile, needsScript, readToJudge}
-use Rattle.deployment.specs.FieldValues.{FieldValues, valuesRead, readValues}
-use Rattle.deployment.specs.Properties.{AreBytes, TurnedAway, ValuesFail}
+use Rattle.deployment.specs.Properties.{AreBytes, TurnedAway}
 use Rattle.deployment.specs.declared.Refusal.{Refusal}
 use Rattle.deployment.proofs.Numbers.{both-same, numbers-say}
 use Rattle.deployment.proofs.Values.{byOption}
 use Rattle.deployment.proofs.Reader.{refusals}
-use Rattle.deployment.proofs.RefusedValues.{refused-values}
-use Rattle.reader.specs.Answers.{checkingNumbers, valuesGiven, fileRead, fileNumbers}
-use Rattle.reader.specs.Claims.{FileNumbersSay, RefusedFile, Scriptless, RefusedToJudge, RefusedCheck}
-use Rattle.reader.specs.declared.Checking.{Checking}
+use Rattle.reader.specs.Answers.{fileRead, fileNumbers}
+use Rattle.reader.specs.Claims.{FileNumbersSay, RefusedFile, Scriptless, RefusedToJudge}
 use Rattle.reader.specs.declared.FileRead.{FileRead}
 use Rattle.reader.specs.declared.FileRead.the-variants.{Accepted, Refused}
-use Rattle.reader.proofs.ShownReadings.{shown-numbers, checking-numbers}
-use Rattle.reader.proofs.lists.values_checked.{signature}
+use Rattle.reader.proofs.ShownReadings.{shown-numbers}
 use Rattle.reader.proofs.file.read.Reads as read
 use Rattle.reader.proofs.file.read_to_judge.Reads as read-to-judge
-use Rattle.reader.proofs.lists.values_checked.Reads as values-checked
 
 pub file-numbers-say : FileNumbersSay
 unfolding fileNumbers
@@ -62,10 +56,6 @@ refused-to-judge file number at b =
     lacks : (number ≡ 12) × Scriptless file at → readingNumbers (needsScript (length file) (readFile file)) ≡ number ∷ at ∷ []
     lacks (twelve, (c, read, absent, there)) = rw (read, needsScript, absent, twelve, there)
 
-pub refused-check : RefusedCheck
-unfolding readValues
-refused-check v number at = rw (checking-numbers (valuesRead v)) (refused-values v number at)
-
 -- The same of the entries: a row holds, so `read` answers its number and the field's position, and conversely.
 pub read-answers-the-row : (κ : _) (a : _) (r : FileRead) (e : _) → read.Post κ a r e → AreBytes (now (a .0)) → (number at : ℕ)
     → (fileNumbers r ≡ number ∷ at ∷ []) ↔ TurnedAway (now (a .0)) number at
@@ -75,13 +65,3 @@ pub read-to-judge-answers-the-row : (κ : _) (a : _) (r : FileRead) (e : _) → 
     → (number at : ℕ)
     → (fileNumbers r ≡ number ∷ at ∷ []) ↔ (TurnedAway (now (a .0)) number at ⊎ ((number ≡ 12) × Scriptless (now (a .0)) at))
 read-to-judge-answers-the-row κ a r e p b number at = rw p (refused-to-judge (now (a .0)) number at b)
-
--- the values that a call is given
-abbrev values : (κ : _) → ArgsD signature κ → FieldValues
-values κ a =
-    valuesGiven (now (a .0)) (now (a .1 .0)) (now (a .1 .1 .0)) (a .1 .1 .1 .0) (now (a .1 .1 .1 .1 .0)) (a .1 .1 .1 .1 .1 .0)
-    (now (a .1 .1 .1 .1 .1 .1 .0))
-
-pub values-checked-answers-the-row : (κ : _) (a : _) (r : Checking) (e : _) → values-checked.Post κ a r e → (number at : ℕ)
-    → (checkingNumbers r ≡ number ∷ at ∷ []) ↔ (ValuesFail (values κ a) number × (at ≡ 0))
-values-checked-answers-the-row κ a r e p number at = rw p (refused-check (values κ a) number at)

@@ -5,12 +5,10 @@ use Prim.Native.Nat.{ℕ}
 use native.Mathlib.Omega.{arith}
 use mathlib.Core.Path.{_≡_, refl, ap}
 use mathlib.Core.List.{List}
-use Rattle.deployment.specs.Checked.{Checked, good, bad, refusalNumbers}
 use Rattle.deployment.specs.Contents.{Contents}
 use Rattle.deployment.specs.File.{Reading, accepted, refused, readingNumbers, readFile}
-use Rattle.deployment.specs.FieldValues.{atZero}
 use Rattle.deployment.specs.declared.Refusal.{Refusal}
-use Rattle.reader.specs.Answers.{layoutOf, shown, fileRead, fileNumbers, checking, checkingNumbers}
+use Rattle.reader.specs.Answers.{layoutOf, shown, fileRead, fileNumbers}
 use Rattle.reader.specs.declared.Layout.{Layout}
 use Rattle.reader.specs.declared.FileRead.the-variants.{Accepted, Refused}
 
@@ -34,8 +32,3 @@ pub shown-numbers : (reading : Reading) → fileNumbers (shown reading) ≡ read
 unfolding shown fileNumbers readingNumbers
 shown-numbers (accepted c) = refl
 shown-numbers (refused refusal) = refl
-
-pub checking-numbers : (read : Checked Contents) → checkingNumbers (checking read) ≡ readingNumbers (atZero read)
-unfolding checking checkingNumbers atZero readingNumbers refusalNumbers
-checking-numbers (good c) = refl
-checking-numbers (bad why) = refl

@@ -14,7 +14,8 @@ use Rattle.deployment.specs.File.{Reading, accepted, refused, readFile, needsSc
 use Rattle.deployment.specs.declared.Refusal.{Refusal}
 use Rattle.deployment.specs.declared.Why.the-variants.{NoScript}
 use Rattle.deployment.proofs.Values.{byOption}
-use Rattle.reader.specs.Answers.{there, layoutOf, shown, fileRead}
+use Rattle.values.specs.Answers.{there}
+use Rattle.reader.specs.Answers.{layoutOf, shown, fileRead}
 use Rattle.reader.specs.declared.Layout.{Layout}
 use Rattle.reader.specs.declared.FileRead.the-variants.{Accepted, Refused}
 use Rattle.reader.proofs.ShownReadings.{file-refused, shown-accepted}

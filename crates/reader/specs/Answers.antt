@@ -1,54 +1,19 @@
--- The reader's answers: whether values are turned away and why, and where the values of an accepted file stand. Assumes nothing.
+-- The reader's answers: where the values of an accepted file stand, or why it is turned away. Assumes nothing.
 use Prim.Native.Nat.{ℕ, zero, suc, _+_, _*_}
-use mathlib.Core.Bool.{Bool, true, false, cond}
-use mathlib.Core.List.{List, [], _∷_, _++_}
+use mathlib.Core.List.{List, [], _++_}
 use mathlib.Core.Option.{Option, none, some}
 use lib.ListN.{length}
-use lib.Dec.{eqb}
-use Rattle.policy.specs.Rule.{Rule}
-use Rattle.deployment.specs.Checked.{Checked, good, bad, _>>_, require, whyNumber, refusalNumbers}
+use Rattle.deployment.specs.Checked.{refusalNumbers}
 use Rattle.deployment.specs.Bytes.{part}
 use Rattle.deployment.specs.Values.{Script, rule-bytes, numbersBytes, scriptBytes}
-use Rattle.deployment.specs.Contents.{Contents, ruleRead}
+use Rattle.deployment.specs.Contents.{Contents}
 use Rattle.deployment.specs.FieldValues.{FieldValues}
 use Rattle.deployment.specs.File.{Reading, accepted, refused, readFile, head-bytes}
-use Rattle.deployment.specs.declared.Why.the-variants.{Length}
-use Rattle.reader.specs.declared.Checking.{Checking}
-use Rattle.reader.specs.declared.Checking.the-variants.{Good, Bad}
+use Rattle.values.specs.Answers.{there, valuesGiven}
 use Rattle.reader.specs.declared.Span.{Span}
 use Rattle.reader.specs.declared.Layout.{Layout}
 use Rattle.reader.specs.declared.FileRead.{FileRead}
 use Rattle.reader.specs.declared.FileRead.the-variants.{Accepted, Refused}
-
--- whether tests pass, and why not
-unfoldable pub checking : {A : Type 0} → Checked A → Checking
-checking (good a) = Good
-checking (bad why) = Bad why
-
--- the number of why not, "all at position 0"
-unfoldable pub checkingNumbers : Checking → List ℕ
-checkingNumbers Good = []
-checkingNumbers (Bad why) = whyNumber why ∷ 0 ∷ []
-
--- a rule as a field value: 4, then 5, 6
-unfoldable pub ruleValue : List Rule → List ℕ → Checked Rule
-ruleValue catalogue value = do
-  require (eqb (length value) rule-bytes) Length
-  ruleRead catalogue value
-
--- "Entries that take lists take field values, and are told whether a keep list is absent or empty", and so for the script
-unfoldable pub given : Bool → List ℕ → Option (List ℕ)
-given is value = cond is (some value) none
-
-unfoldable pub valuesGiven : List ℕ → List ℕ → List ℕ → Bool → List ℕ → Bool → List ℕ → FieldValues
-valuesGiven rules initial target has-keep keep has-script script =
-    record {
-      rules = rules;
-      initial = initial;
-      target = target;
-      keep = given has-keep keep;
-      script = given has-script script;
-    }
 
 -- "the part of the file that is its value"
 unfoldable pub valueAt : Span → List ℕ → List ℕ
@@ -69,10 +34,6 @@ spanIf end (some value) = spanFrom end value
 unfoldable pub endOf : ℕ → Option (List ℕ) → ℕ
 endOf end none = end
 endOf end (some value) = end + (head-bytes + length value)
-
-unfoldable pub there : {A : Type 0} → Option A → Bool
-there none = false
-there (some a) = true
 
 unfoldable pub keepBytes : Option (List ℕ) → Option (List ℕ)
 keepBytes none = none

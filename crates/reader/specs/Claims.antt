@@ -17,7 +17,9 @@ use Rattle.deployment.specs.FieldValues.{FieldValues, valuesRead}
 use Rattle.deployment.specs.Properties.{AreBytes, IfThere, Valid, TurnedAway, ValuesFail}
 use Rattle.deployment.specs.Claims.{valuesOf}
 use Rattle.deployment.specs.declared.Refusal.{Refusal}
-use Rattle.reader.specs.Answers.{checking, checkingNumbers, valueAt, there, layoutOf, ruleSpan, valuesGathered, shown, fileRead, fileNumbers}
+use Rattle.catalogue.specs.Answers.{checking, checkingNumbers}
+use Rattle.values.specs.Answers.{there}
+use Rattle.reader.specs.Answers.{valueAt, layoutOf, ruleSpan, valuesGathered, shown, fileRead, fileNumbers}
 use Rattle.reader.specs.declared.Span.{Span}
 use Rattle.reader.specs.declared.Layout.{Layout}
 use Rattle.reader.specs.declared.FileRead.{FileRead}
@@ -86,9 +88,3 @@ abbrev pub RefusedToJudge : Type 0
 RefusedToJudge =
     (file : List ℕ) (number at : ℕ) → AreBytes file
     → (fileNumbers (shown (readToJudge file)) ≡ number ∷ at ∷ []) ↔ (TurnedAway file number at ⊎ ((number ≡ 12) × Scriptless file at))
-
--- field values are turned away exactly as a row says, "all at position 0"
-abbrev pub RefusedCheck : Type 0
-RefusedCheck =
-    (v : FieldValues) (number at : ℕ)
-    → (checkingNumbers (checking (valuesRead v)) ≡ number ∷ at ∷ []) ↔ (ValuesFail v number × (at ≡ 0))

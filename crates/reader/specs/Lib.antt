@@ -1,6 +1,4 @@
 -- What the reader answers, over the definitions of the deployment crate.
 pub mod Answers
-pub mod Marks
 pub mod Steps
 pub mod Claims
-pub mod Naming

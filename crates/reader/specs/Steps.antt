@@ -27,7 +27,8 @@ use Rattle.deployment.specs.File.{
   script-tag,
 }
 use Rattle.deployment.specs.Properties.{CanStand, Readable, fieldsBytes}
-use Rattle.reader.specs.Answers.{keepBytes, commandBytes, spanIf, endOf, there}
+use Rattle.values.specs.Answers.{there}
+use Rattle.reader.specs.Answers.{keepBytes, commandBytes, spanIf, endOf}
 use Rattle.reader.specs.declared.Layout.{Layout}
 use Rattle.reader.specs.declared.file.Progress.{Progress}
 use Rattle.reader.specs.declared.file.Head.{Head}

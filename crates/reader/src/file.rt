@@ -1,7 +1,7 @@
 // The deployment file: its fields read left to right.
 
 ghost use mathlib.Core.Path.{_≡_};
-ghost use Prim.Native.Nat.{ℕ, _<_, _≤_};
+ghost use Prim.Native.Nat.{ℕ, _<_, _≤_, min};
 ghost use mathlib.Core.Bool.{false, _&&_};
 ghost use mathlib.Core.List.{List};
 ghost use lib.ListN.{length, take, drop};
@@ -11,41 +11,34 @@ ghost use Rattle.policy.specs.Policy.{most-rules};
 ghost use Rattle.deployment.specs.Values.{ruleOf, known};
 ghost use Rattle.deployment.specs.Catalogue.{catalogueOf};
 ghost use Rattle.deployment.specs.Checked.{good};
-ghost use Rattle.deployment.specs.File.{Fields, rule-tag, tagsAfter, fieldRead, lengthFits, withField, atEnd, readToJudge};
+ghost use Rattle.deployment.specs.File.{Fields, rule-tag, tagsAfter, lastTag, fieldRead, lengthFits, withField, atEnd, nothing, readToJudge};
 ghost use Rattle.deployment.specs.Properties.{Readable, fieldsBytes};
-ghost use Rattle.reader.specs.Answers.{valueAt, spanFrom, checking, shown, fileRead};
-ghost use Rattle.reader.specs.Marks.{Apart};
+ghost use Rattle.catalogue.specs.Answers.{checking};
+ghost use Rattle.reader.specs.Answers.{valueAt, spanFrom, shown, fileRead};
+ghost use Rattle.catalogue.specs.RuleMarks.{Apart};
 ghost use Rattle.reader.specs.Steps.{More, Begun, layoutSoFar, progressOf, headShown, stepFrom};
-use super::Checking;
 use super::FileRead;
 use super::Layout;
 use super::Span;
-use super::rule::apart;
-use super::rule::rule_tested;
-use super::values::MOST_RULES;
-use super::values::RULE_BYTES;
-use super::values::keep_checked;
-use super::values::list_fits;
-use super::values::policy_checked;
-use super::values::script_checked;
-use super::values::script_fits;
+use catalogue::Checking;
+use catalogue::rule::apart;
+use catalogue::rule::rule_tested;
 use deployment::Refusal;
 use deployment::Why;
-use deployment::two;
-
-// The tags: "01 a rule, 02 initial policy, 03 target policy, 04 keep list, 05 script".
-pub const RULE_TAG: u8 = 1;
-
-pub const INITIAL_TAG: u8 = 2;
-
-pub const TARGET_TAG: u8 = 3;
-
-pub const KEEP_TAG: u8 = 4;
-
-pub const SCRIPT_TAG: u8 = 5;
-
-// "a one-byte tag, a two-byte length"
-pub const HEAD_BYTES: usize = 3;
+use format::HEAD_BYTES;
+use format::INITIAL_TAG;
+use format::KEEP_TAG;
+use format::RULE_BYTES;
+use format::RULE_TAG;
+use format::SCRIPT_TAG;
+use format::TARGET_TAG;
+use format::two_at;
+use policy::MOST_RULES;
+use values::keep_checked;
+use values::list_fits;
+use values::policy_checked;
+use values::script_checked;
+use values::script_fits;
 
 // A field's head, or why the field is turned away.
 enum Head {
@@ -66,21 +59,20 @@ enum Step {
     Bad(Why),
 }
 
-// "the part of the file that is its value"; nothing where the file is shorter.
+// The smaller of two numbers.
+fn least(a: usize, b: usize) -> usize
+    ensures { λ n. ⌜ n ≡ min a b ⌝ }
+{
+    if a < b { a } else { b }
+}
+
+// "the part of the file that is its value"; what there is of it where the file is shorter.
 pub fn value<'a>(file: &'a [u8], span: Span) -> &'a [u8]
     ensures { λ v. ⌜ now v ≡ valueAt span (now (file .entry)) ⌝ }
 {
-    let start = span.start;
-    let size = span.size;
-    let len = file.len();
-    if len <= start {
-        return &file[len..len];
-    }
-    if len - start < size {
-        return &file[start..len];
-    }
-    let end = start + size;
-    &file[start..end]
+    let start = least(span.start, file.len());
+    let size = least(span.size, file.len() - start);
+    &file[start..start + size]
 }
 
 // 2: whether a tag can stand after the last one.
@@ -117,23 +109,23 @@ fn one_too_many(tag: u8, rules: usize) -> bool
 }
 
 // The head of the next field: 1 for the head, 2, 7, 4, 1 for the value.
-fn field_head(file: &[u8], progress: Progress) -> Head
-    requires { ⌜ progress .at < length (now file) ⌝ }
-    ensures { λ h. ⌜ ((f : Fields) → Begun (now (file .entry)) progress f → h ≡ headShown (fieldRead f (drop (progress .at) (now (file .entry))))) ⌝ }
+fn field_head(file: &[u8], at: usize, last: u8, rules: usize) -> Head
+    requires { ⌜ at < length (now file) ⌝ }
+    ensures { λ h.
+        ⌜ ((f : Fields) → last ≡ lastTag f → rules ≡ length (f .catalogue) → h ≡ headShown (fieldRead f (drop at (now (file .entry))))) ⌝ }
 {
-    let at = progress.at;
     let left = file.len() - at;
     if left < HEAD_BYTES {
         return Head::Bad(Why::Cut);
     }
     let tag = file[at];
-    if !can_stand(progress.last, tag) {
+    if !can_stand(last, tag) {
         return Head::Bad(Why::Tag);
     }
-    if one_too_many(tag, progress.layout.rules) {
+    if one_too_many(tag, rules) {
         return Head::Bad(Why::TooMany);
     }
-    let size = two(file[at + 1], file[at + 2]) as usize;
+    let size = two_at(file, at + 1) as usize;
     if !length_fits(tag, size) {
         return Head::Bad(Why::Length);
     }
@@ -152,21 +144,26 @@ fn checked(file: &[u8], progress: Progress, differing: usize, tag: u8, bytes: &[
         → fieldRead f (drop (progress .at) (now (file .entry))) ≡ good (record { tag = tag; value = now (bytes .entry) })
         → c ≡ checking (withField f (record { tag = tag; value = now (bytes .entry) }))) ⌝ }
 {
-    let layout = progress.layout;
     if tag == RULE_TAG {
-        return rule_tested(file, HEAD_BYTES as u8, layout.rules, bytes, differing);
-    }
-    if tag == INITIAL_TAG || tag == TARGET_TAG {
-        return policy_checked(bytes, layout.rules);
+        return rule_tested(
+            file,
+            HEAD_BYTES as u8,
+            progress.layout.rules,
+            bytes,
+            differing,
+        );
     }
     if tag == KEEP_TAG {
         return keep_checked(
             bytes,
-            value(file, layout.initial),
-            value(file, layout.target),
+            value(file, progress.layout.initial),
+            value(file, progress.layout.target),
         );
     }
-    script_checked(bytes)
+    if tag == SCRIPT_TAG {
+        return script_checked(bytes);
+    }
+    policy_checked(bytes, progress.layout.rules)
 }
 
 // The places with that of one more value.
@@ -198,7 +195,7 @@ fn next_field(file: &[u8], progress: Progress, differing: usize) -> Step
     requires { ⌜ (progress .at < length (now file)) × ((f : Fields) × Begun (now file) progress f) × Apart 3 differing (now file) ⌝ }
     ensures { λ s. ⌜ ((f : Fields) → Begun (now (file .entry)) progress f → s ≡ stepFrom f (drop (progress .at) (now (file .entry)))) ⌝ }
 {
-    let found = field_head(file, progress);
+    let found = field_head(file, progress.at, progress.last, progress.layout.rules);
     match found {
         Head::Bad(why) => Step::Bad(why),
         Head::Field(tag, size) => {
@@ -224,23 +221,22 @@ fn next_field(file: &[u8], progress: Progress, differing: usize) -> Step
 fn ended(progress: Progress) -> FileRead
     ensures { λ r. ⌜ ((f : Fields) → Readable f → progress ≡ progressOf f → r ≡ shown (atEnd f (progress .at))) ⌝ }
 {
-    let end = progress.at;
     if progress.last < TARGET_TAG {
         return FileRead::Refused(Refusal {
             why: Why::NoTarget,
-            at: end,
+            at: progress.at,
         });
     }
     let layout = progress.layout;
     FileRead::Accepted(layout)
 }
 
-// "Fields are tested left to right."
-pub fn read(file: &[u8]) -> FileRead
-    ensures { λ r. ⌜ r ≡ fileRead (now (file .entry)) ⌝ }
+// Before the first field.
+fn nothing_read() -> Progress
+    ensures { λ p. ⌜ p ≡ progressOf nothing ⌝ }
 {
     let nowhere = Span { start: 0, size: 0 };
-    let mut progress = Progress {
+    Progress {
         at: 0,
         last: RULE_TAG,
         layout: Layout {
@@ -252,7 +248,14 @@ pub fn read(file: &[u8]) -> FileRead
             has_script: false,
             script: nowhere,
         },
-    };
+    }
+}
+
+// "Fields are tested left to right."
+pub fn read(file: &[u8]) -> FileRead
+    ensures { λ r. ⌜ r ≡ fileRead (now (file .entry)) ⌝ }
+{
+    let mut progress = nothing_read();
     let differing = apart(file, HEAD_BYTES as u8);
     while progress.at < file.len() {
         let at = progress.at;
@@ -274,16 +277,13 @@ pub fn read_to_judge(file: &[u8]) -> FileRead
     ensures { λ r. ⌜ r ≡ shown (readToJudge (now (file .entry))) ⌝ }
 {
     let found = read(file);
-    match found {
-        FileRead::Refused(refusal) => FileRead::Refused(refusal),
-        FileRead::Accepted(layout) => {
-            if !layout.has_script {
-                return FileRead::Refused(Refusal {
-                    why: Why::NoScript,
-                    at: file.len(),
-                });
-            }
-            FileRead::Accepted(layout)
+    if let FileRead::Accepted(layout) = found {
+        if !layout.has_script {
+            return FileRead::Refused(Refusal {
+                why: Why::NoScript,
+                at: file.len(),
+            });
         }
     }
+    found
 }

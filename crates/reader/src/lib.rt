@@ -1,18 +1,8 @@
-// The reader: tests of field values (values.rt), and the deployment file read into the places of its values (file.rt). Nothing is copied.
+// The reader: the deployment file read into the places of its values (file.rt). Nothing is copied.
 
 use deployment::Refusal;
-use deployment::Why;
 
 pub mod file;
-pub mod lists;
-mod rule;
-pub mod values;
-
-// Whether a value passes its tests.
-pub enum Checking {
-    Good,
-    Bad(Why),
-}
 
 // A part of a file.
 pub struct Span {

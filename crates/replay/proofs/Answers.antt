@@ -1,4 +1,4 @@
--- Any two answers that a contract allows show the same: of `start`, of `step`, of `replay`; and each claim by number holds of the answer that
+-- Any two answers that a contract allows show the same: of `start`, of `step` and of `replay`; and each claim by number holds of the answer that
 -- `replay` gives, and of the one that `step` gives to a sound state. Assumes nothing.
 use Prim.Native.Nat.{min}
 use mathlib.Core.Path.{_≡_, sym, _∙_, subst}

@@ -16,7 +16,7 @@ use Rattle.deployment.specs.Commands.{commandCount, commandAt, decoded}
 use Rattle.deployment.specs.declared.Decoded.the-variants.{Is, Wrong}
 use Rattle.deployment.proofs.Values.{byOption, none-some}
 use Rattle.deployment.proofs.Scripts.{script-of}
-use Rattle.reader.proofs.Scripts.{decoded-is, decoded-wrong, chunk-count, chunk-command}
+use Rattle.values.proofs.Scripts.{decoded-is, decoded-wrong, chunk-count, chunk-command}
 use Rattle.replay.specs.Answers.{commandsOf, Readable}
 
 -- Pieces that are all read: as many commands as pieces, the k-th from the k-th.

@@ -21,19 +21,13 @@ use Rattle.policy.proofs.Lists.{mem-in, not-mem}
 use Rattle.policy.proofs.Commands.{passes-makes, makes-policy}
 use Rattle.policy.proofs.Counting.{inside-length}
 use Rattle.running.specs.Running.{Shown, view, given, roomy, appended, ruleDeleted, inserted, placeDeleted, relocated}
-use Rattle.running.specs.Places.{placeIn, renumbered, Says}
+use Rattle.running.specs.Place.{placeIn}
+use Rattle.places.specs.Places.{renumbered, Says}
 use Rattle.running.specs.declared.Refusing.the-variants.{Nothing, Failed}
 use Rattle.running.proofs.Edits.{within-bounds}
 use Rattle.running.proofs.Claims.{absent-test, takes-out}
-use Rattle.running.proofs.Says.{
-  place-within,
-  place-rule,
-  place-lifted,
-  says-appended-from,
-  says-lifted-from,
-  says-placed-from,
-  says-moved-from,
-}
+use Rattle.running.proofs.Place.{place-within, place-rule, place-lifted}
+use Rattle.places.proofs.Says.{says-appended-from, says-lifted-from, says-placed-from, says-moved-from}
 use Rattle.replay.specs.Stepping.{stepShown, cleared, changedFrom, placesAfter, StepLeft, settled, stepLeft, leftBy, Sound}
 use Rattle.replay.specs.declared.Stepped.{Stepped}
 

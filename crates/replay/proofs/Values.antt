@@ -16,11 +16,11 @@ use Rattle.deployment.specs.FieldValues.{policyValue, scriptValue}
 use Rattle.deployment.specs.declared.Why.{Why}
 use Rattle.deployment.proofs.Records.{numbers-length}
 use Rattle.deployment.proofs.Tests.{Each, tested, says-list, policy-tested, script-tested, each-then}
-use Rattle.running.specs.Places.{renumbered}
-use Rattle.running.proofs.Says.{says-numbered}
-use Rattle.reader.specs.Answers.{checking}
-use Rattle.reader.specs.declared.Checking.the-variants.{Good, Bad}
-use Rattle.reader.proofs.Given.{passed, failed}
+use Rattle.places.specs.Places.{renumbered}
+use Rattle.places.proofs.Says.{says-numbered}
+use Rattle.catalogue.specs.Answers.{checking}
+use Rattle.catalogue.specs.declared.Checking.the-variants.{Good, Bad}
+use Rattle.values.proofs.Given.{passed, failed}
 use Rattle.replay.specs.Stepping.{Sound}
 use Rattle.replay.specs.Answers.{stopped, outcomeOf, commandsOf, replayed, Readable}
 use Rattle.replay.specs.declared.Ending.the-variants.{Turned}
@@ -43,9 +43,9 @@ policy-list size value =
 abbrev IsRead : List ℕ → Option Script → Type 0
 IsRead value read = Readable value × (commandsOf (scriptOf value) ≡ commandsOf read)
 
-script-read : (value : List ℕ) → Each (IsRead value) (λ why. Unit {0}) (scriptValue (some value))
+commands-read : (value : List ℕ) → Each (IsRead value) (λ why. Unit {0}) (scriptValue (some value))
 unfolding scriptValue
-script-read value =
+commands-read value =
     let P = Each (IsRead value) (λ why. Unit {0}) in
     tested P (scriptFits (length value)) (λ e. tt) λ fits.
     each-then (λ script. scriptOf value ≡ some script) (IsRead value) (λ why. Unit {0}) (scriptRead value) (λ script. good (some script))
@@ -75,7 +75,7 @@ module _ (size : ℕ) (initial script : List ℕ) where
       pub accepted-script : Readable script
       accepted-script =
           let (commands, is) = passed (scriptValue (some script)) read in
-          let known : IsRead script commands = rw is at (script-read script) in
+          let known : IsRead script commands = rw is at (commands-read script) in
           known .0
 
       pub runs : outcomeOf (replay (min size 1024) (take 1024 (numbersOf initial)) (commandsOf (scriptOf script))) ≡ replayed size initial script
@@ -84,7 +84,7 @@ module _ (size : ℕ) (initial script : List ℕ) where
           let (policy, is) = passed (policyValue (min size 1024) initial) accepted in
           let listed : IsList (min size 1024) initial policy = rw is at (policy-list (min size 1024) initial) in
           let (commands, of) = passed (scriptValue (some script)) read in
-          let known : IsRead script commands = rw of at (script-read script) in
+          let known : IsRead script commands = rw of at (commands-read script) in
           rw (is, replayed) (rw of (ap outcomeOf (ap₂ (replay (min size 1024)) (listed .0) (known .1))))
 
 -- the state that a replay starts from

@@ -3,6 +3,7 @@ use Prim.Native.Nat.{ℕ, min}
 use mathlib.Core.Path.{_≡_}
 use mathlib.Core.List.{List, [], _∷_}
 use mathlib.Core.Option.{Option, none, some}
+use Rattle.policy.specs.Policy.{most-rules}
 use Rattle.policy.specs.declared.Command.{Command}
 use Rattle.policy.specs.Command.{faultNumber}
 use Rattle.policy.specs.Replay.{ended, broken, replay}
@@ -47,10 +48,10 @@ Readable value = (script : Script) × (scriptOf value ≡ some script)
 -- 4, 8, 9 for the policy, 4, 11 for the script, then 20 to 23 with the step
 unfoldable pub replayed : ℕ → List ℕ → List ℕ → Outcome
 replayed size initial script =
-    elim (policyValue (min size 1024) initial) [
+    elim (policyValue (min size most-rules) initial) [
       | bad why ↦ stopped (Turned why)
       | good policy ↦ elim (scriptValue (some script)) [
         | bad why ↦ stopped (Turned why)
-        | good read ↦ outcomeOf (replay (min size 1024) policy (commandsOf read))
+        | good read ↦ outcomeOf (replay (min size most-rules) policy (commandsOf read))
       ]
     ]

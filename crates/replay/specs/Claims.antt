@@ -6,6 +6,7 @@ use mathlib.Core.Path.{_≡_}
 use mathlib.Core.Logic.{_⊎_, _↔_}
 use mathlib.Core.List.{List, [], _∷_}
 use mathlib.Core.Option.{Option, some}
+use Rattle.policy.specs.Policy.{most-rules}
 use Rattle.policy.specs.Properties.{Leads}
 use Rattle.policy.specs.Claims.{BreaksAt}
 use Rattle.policy.specs.declared.Command.{Command}
@@ -46,7 +47,7 @@ pub record Replays (size : ℕ) (initial script : List ℕ) (o : Outcome) : Type
 
 -- sizes above 1,024 are taken for 1,024
 abbrev pub ReplayedByNumber : Type 0
-ReplayedByNumber = (size : ℕ) (initial script : List ℕ) → Replays (min size 1024) initial script (replayed size initial script)
+ReplayedByNumber = (size : ℕ) (initial script : List ℕ) → Replays (min size most-rules) initial script (replayed size initial script)
 
 -- One command on a sound state: it fails with a number exactly when the table says so, and the list stays; else it makes what document 01 says.
 abbrev pub StepByNumber : Type 0

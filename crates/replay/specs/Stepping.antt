@@ -8,7 +8,7 @@ use Rattle.policy.specs.Policy.{most-rules}
 use Rattle.policy.specs.declared.Command.{Command}
 use Rattle.policy.specs.declared.Command.the-variants.{App, DelRule, Ins, DelPlace, Mov}
 use Rattle.running.specs.Running.{Shown, view, appended, ruleDeleted, inserted, placeDeleted, relocated}
-use Rattle.running.specs.Places.{renumbered, Says}
+use Rattle.places.specs.Places.{renumbered, Says}
 use Rattle.running.specs.declared.Refusing.{Refusing}
 use Rattle.running.specs.declared.Refusing.the-variants.{Nothing, Failed}
 use Rattle.replay.specs.declared.Stepped.{Stepped}

@@ -3,28 +3,30 @@
 ghost use mathlib.Core.Path.{_≡_};
 ghost use Prim.Native.Nat.{ℕ, _-_};
 ghost use lib.ListN.{replicate};
+ghost use Rattle.policy.specs.Policy.{most-rules};
 ghost use Rattle.policy.specs.Command.{ruleAt};
 ghost use Rattle.policy.specs.declared.Command.the-variants.{App, DelRule, Ins, DelPlace, Mov};
 ghost use Rattle.policy.specs.Replay.{replay};
 ghost use Rattle.running.specs.Running.{view, shown};
-ghost use Rattle.running.specs.Places.{renumbered};
+ghost use Rattle.places.specs.Places.{renumbered};
 ghost use Rattle.deployment.specs.Values.{scriptOf};
 ghost use Rattle.replay.specs.Stepping.{stepLeft, leftBy, settled, Sound};
 ghost use Rattle.replay.specs.Answers.{shownBy, stopped, outcomeOf, commandsOf, Readable, replayed};
+use catalogue::Checking;
+use commands::command_at;
+use commands::commands;
 use deployment::Decoded;
 use deployment::Why;
-use deployment::command_at;
-use deployment::commands;
+use format::list_of;
+use places::Places;
 use policy::Command;
 use policy::Fault;
-use reader::Checking;
-use reader::values::list_of;
-use reader::values::policy_checked;
-use reader::values::script_checked;
+use policy::MOST_RULES;
 use running::Edited;
-use running::Places;
 use running::Refusing;
 use running::Running;
+use values::policy_checked;
+use values::script_checked;
 
 // A running list and its side array.
 pub struct Replaying {
@@ -76,22 +78,18 @@ fn settle(e: Edited, before: Places, places: Places, from: usize) -> Stepped
 {
     let list = e.list;
     let refusal = e.refusal;
+    let mut anew = before;
     if let Refusing::Nothing = refusal {
-        let anew = places.numbered(list, from);
-        let state = Replaying { list, places: anew };
-        return Stepped { state, refusal };
+        anew = places.numbered(list, from);
     }
-    let state = Replaying {
-        list,
-        places: before,
-    };
+    let state = Replaying { list, places: anew };
     Stepped { state, refusal }
 }
 
 impl Replaying {
     // The side array of a list.
     pub fn start(list: Running) -> Self
-        ensures { λ s. ⌜ (view (s .list) ≡ view list) × (s .places .of ≡ renumbered 1 (view list) (replicate 1024 0)) ⌝ }
+        ensures { λ s. ⌜ (view (s .list) ≡ view list) × (s .places .of ≡ renumbered 1 (view list) (replicate most-rules 0)) ⌝ }
     {
         let places = Places::none().numbered(list, 0);
         Replaying { list, places }
@@ -194,8 +192,7 @@ fn run(start: Replaying, size: usize, script: &[u8]) -> Replayed
             let at = k + 1;
             return stop(Ending::Broken(fault, at));
         }
-        let next = s.state;
-        state = next;
+        state = s.state;
         k += 1;
     }
     let list = state.list;
@@ -209,7 +206,6 @@ fn run(start: Replaying, size: usize, script: &[u8]) -> Replayed
 pub fn replay(size: usize, initial: &[u8], script: &[u8]) -> Replayed
     ensures { λ r. ⌜ shownBy r ≡ replayed size (now (initial .entry)) (now (script .entry)) ⌝ }
 {
-    let list = list_of(initial);
     let c = policy_checked(initial, size);
     if let Checking::Bad(why) = c {
         return stop(Ending::Turned(why));
@@ -218,6 +214,6 @@ pub fn replay(size: usize, initial: &[u8], script: &[u8]) -> Replayed
     if let Checking::Bad(why) = d {
         return stop(Ending::Turned(why));
     }
-    let top = if size < 1024 { size } else { 1024 };
-    run(Replaying::start(list), top, script)
+    let top = if size < MOST_RULES { size } else { MOST_RULES };
+    run(Replaying::start(list_of(initial)), top, script)
 }

@@ -1,7 +1,7 @@
 -- "Each public entry promises one answer for each input": any two answers that a method's contract allows show the same. A list shows its first
--- `len` slots, and what lies behind them is nobody's; numbers, namings and side arrays are equal outright. Each follows from the contract as
--- the checker reads it, so a weaker contract breaks it. Each editing
--- method refuses by number what the table says, where the place that it is told is the rule's. Assumes nothing.
+-- `len` slots, and what lies behind them is nobody's; numbers and namings are equal outright. Each follows from the contract as the checker
+-- reads it, so a weaker contract breaks it. Each editing method refuses by number what the table says, where the place that it is told is the
+-- rule's. Assumes nothing.
 use Prim.Native.Nat.{ℕ, _<_}
 use mathlib.Core.Path.{_≡_, sym, _∙_, ap, subst}
 use mathlib.Core.List.{List}
@@ -9,11 +9,10 @@ use lib.ListN.{length}
 use Rattle.running.specs.declared.Running.{Running}
 use Rattle.running.specs.declared.Edited.{Edited}
 use Rattle.running.specs.declared.Naming.{Naming}
-use Rattle.running.specs.declared.Places.{Places}
 use Rattle.policy.specs.declared.Command.the-variants.{App, DelRule, Ins, DelPlace, Mov}
 use Rattle.policy.specs.Policy.{most-rules}
 use Rattle.running.specs.Running.{view, shown, appended, ruleDeleted, inserted}
-use Rattle.running.specs.Places.{placeIn}
+use Rattle.running.specs.Place.{placeIn}
 use Rattle.running.specs.Claims.{ByNumber}
 use Rattle.running.proofs.Claims.{place-deleted-by-number, relocated-by-number, rule-deleted-by-number, appended-by-number, inserted-by-number}
 use Rattle.running.proofs.Running.empty.Reads as empty
@@ -24,15 +23,6 @@ use Rattle.running.proofs.Running.ins.Reads as ins
 use Rattle.running.proofs.Running.del_place.Reads as del-place
 use Rattle.running.proofs.Running.mov.Reads as mov
 use Rattle.running.proofs.Running.naming.Reads as naming
-use Rattle.running.proofs.Places.none.Reads as none
-use Rattle.running.proofs.Places.place.Reads as place
-use Rattle.running.proofs.Places.cleared.Reads as cleared
-use Rattle.running.proofs.Places.numbered.Reads as numbered
-use Rattle.running.proofs.place_of.Reads as place-of
-
--- equal slots make equal arrays
-same-places : (r s : Places) → r .of ≡ s .of → r ≡ s
-same-places r s e = ap (λ (of : List ℕ). record { of = of }) e
 
 pub one-empty : (κ : _) (a : _) (r s : Running) (e f : _) → empty.Post κ a r e → empty.Post κ a s f → view r ≡ view s
 one-empty κ a r s e f p q = p ∙ sym q
@@ -57,21 +47,6 @@ one-mov κ a r s e f p q = p ∙ sym q
 
 pub one-naming : (κ : _) (a : _) (r s : Naming) (e f : _) → naming.Post κ a r e → naming.Post κ a s f → r ≡ s
 one-naming κ a r s e f p q = p ∙ sym q
-
-pub one-none : (κ : _) (a : _) (r s : Places) (e f : _) → none.Post κ a r e → none.Post κ a s f → r ≡ s
-one-none κ a r s e f p q = same-places r s (p ∙ sym q)
-
-pub one-place : (κ : _) (a : _) (r s : ℕ) (e f : _) → place.Post κ a r e → place.Post κ a s f → r ≡ s
-one-place κ a r s e f p q = p ∙ sym q
-
-pub one-cleared : (κ : _) (a : _) (r s : Places) (e f : _) → cleared.Post κ a r e → cleared.Post κ a s f → r ≡ s
-one-cleared κ a r s e f p q = same-places r s (p ∙ sym q)
-
-pub one-numbered : (κ : _) (a : _) (r s : Places) (e f : _) → numbered.Post κ a r e → numbered.Post κ a s f → r ≡ s
-one-numbered κ a r s e f p q = same-places r s (p ∙ sym q)
-
-pub one-place-of : (κ : _) (a : _) (r s : ℕ) (e f : _) → place-of.Post κ a r e → place-of.Post κ a s f → r ≡ s
-one-place-of κ a r s e f p q = p ∙ sym q
 
 -- what each edit gives, by number
 pub del-place-by-number : (κ : _) (a : _) (r : Edited) (e : _) → del-place.Post κ a r e

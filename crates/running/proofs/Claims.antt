@@ -19,11 +19,11 @@ use Rattle.policy.proofs.Lists.{mem-in}
 use Rattle.policy.proofs.Numbers.{fault-numbers-differ}
 use Rattle.policy.proofs.Commands.{makes-passes, passes-makes, makes-unique, fails-with, failed-fails}
 use Rattle.running.specs.Running.{refusingNumbers, Shown, given, roomy, appended, ruleDeleted, inserted, placeDeleted, relocated}
-use Rattle.running.specs.Places.{placeIn}
+use Rattle.running.specs.Place.{placeIn}
 use Rattle.running.specs.Claims.{RefusingNumbersDiffer, ByNumber, GivenByNumber, PlaceDeletedByNumber, RelocatedByNumber}
 use Rattle.running.specs.Claims.{RuleDeletedByNumber, AppendedByNumber, InsertedByNumber}
 use Rattle.running.specs.declared.Refusing.the-variants.{Nothing, Failed}
-use Rattle.running.proofs.Says.{place-zero, absent-place, place-within, place-lifted}
+use Rattle.running.proofs.Place.{place-zero, absent-place, place-within, place-lifted}
 
 pub refusing-numbers-differ : RefusingNumbersDiffer
 unfolding refusingNumbers

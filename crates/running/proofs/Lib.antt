@@ -1,7 +1,6 @@
 pub mod Slots
 pub mod Edits
-pub mod Numbering
 pub mod Names
-pub mod Says
+pub mod Place
 pub mod Claims
 pub mod Answers

@@ -14,7 +14,7 @@ use lib.Seq.{getD-set-same, getD-set-other}
 use Rattle.policy.specs.Lists.{all, mem, differ}
 use Rattle.policy.proofs.Tests.{byTest, never, and-both, both-and, not-true, false-not, falsely}
 use Rattle.running.specs.declared.Naming.the-variants.{Outside, Twice, Once}
-use Rattle.running.specs.Places.{named}
+use Rattle.running.specs.Naming.{named}
 use Rattle.running.proofs.Slots.{behind-cons}
 
 -- from the front: one more rule passes, one doesn't, none is left

@@ -11,7 +11,7 @@ use Rattle.policy.specs.Properties.{Fails, Makes}
 use Rattle.policy.specs.declared.Command.{Command}
 use Rattle.policy.specs.declared.Command.the-variants.{App, DelRule, Ins, DelPlace, Mov}
 use Rattle.running.specs.Running.{refusingNumbers, Shown, given, appended, ruleDeleted, inserted, placeDeleted, relocated}
-use Rattle.running.specs.Places.{placeIn}
+use Rattle.running.specs.Place.{placeIn}
 use Rattle.running.specs.declared.Refusing.{Refusing}
 
 -- No two refusals share their number.

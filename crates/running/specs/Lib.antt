@@ -1,4 +1,5 @@
--- The running list and its side array, over the definitions of the policy crate.
+-- The running list, over the definitions of the policy crate.
 pub mod Running
-pub mod Places
+pub mod Place
+pub mod Naming
 pub mod Claims

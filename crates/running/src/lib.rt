@@ -1,24 +1,23 @@
-// The running list that scripts edit, and a side array that says at once where a rule stands in it.
-// Each method's promise is its `ensures`, in the words of specs/Running.antt and specs/Places.antt; none has a `requires`.
+// The running list that scripts edit. Each method's promise is its `ensures`, in the words of specs/Running.antt and specs/Naming.antt;
+// none has a `requires`.
 
 ghost use mathlib.Core.Path.{_≡_};
 ghost use mathlib.Core.Bool.{true, not};
 ghost use mathlib.Core.List.{[], _∷_, _++_};
 ghost use Prim.Native.Nat.{suc, min, _-_, _<_, _≤_};
 ghost use lib.Dec.{ltb};
-ghost use lib.ListN.{length, take, drop, getD, set, replicate};
+ghost use lib.ListN.{length, take, drop};
+ghost use Rattle.policy.specs.Policy.{most-rules};
 ghost use Rattle.policy.specs.Command.{within, passed, failed};
 ghost use Rattle.policy.specs.Lists.{all, differ};
 ghost use Rattle.running.specs.Running.{view, shown, given, appended, ruleDeleted, inserted, placeDeleted, relocated};
-ghost use Rattle.running.specs.Places.{renumbered, named};
+ghost use Rattle.running.specs.Naming.{named};
 use policy::Fault;
-
-// "at most 1,024 rules in the catalogue": a running list has no more, since its rules differ.
-pub const MOST: usize = 1024;
+use policy::MOST_RULES;
 
 // "A struct by value with an array of 1,024 rule numbers and a length is the running list in replay and planning."
 pub struct Running {
-    pub rules: [u16; 1024],
+    pub rules: [u16; MOST_RULES],
     pub len: usize,
 }
 
@@ -45,8 +44,8 @@ fn in_range(i: usize, top: usize) -> bool
 }
 
 // The rules with the one at index `at` taken out: those behind it, up to `len`, move up by one.
-fn closed(rules: [u16; 1024], at: usize, len: usize) -> [u16; 1024]
-    requires { ⌜ (at < len) × (len ≤ 1024) ⌝ }
+fn closed(rules: [u16; MOST_RULES], at: usize, len: usize) -> [u16; MOST_RULES]
+    requires { ⌜ (at < len) × (len ≤ most-rules) ⌝ }
     ensures { λ a. ⌜ take (len - 1) a ≡ take at rules ++ drop (suc at) (take len rules) ⌝ }
 {
     let mut a = rules;
@@ -59,8 +58,8 @@ fn closed(rules: [u16; 1024], at: usize, len: usize) -> [u16; 1024]
 }
 
 // The rules with `r` put in at index `at`: those from there on, up to `len`, move down by one.
-fn opened(rules: [u16; 1024], at: usize, len: usize, r: u16) -> [u16; 1024]
-    requires { ⌜ (at ≤ len) × (len < 1024) ⌝ }
+fn opened(rules: [u16; MOST_RULES], at: usize, len: usize, r: u16) -> [u16; MOST_RULES]
+    requires { ⌜ (at ≤ len) × (len < most-rules) ⌝ }
     ensures { λ a. ⌜ take (suc len) a ≡ take at rules ++ (r ∷ drop at (take len rules)) ⌝ }
 {
     let mut a = rules;
@@ -74,7 +73,7 @@ fn opened(rules: [u16; 1024], at: usize, len: usize, r: u16) -> [u16; 1024]
 }
 
 // The list that a command gives, and no refusal.
-fn changed(rules: [u16; 1024], len: usize) -> Edited
+fn changed(rules: [u16; MOST_RULES], len: usize) -> Edited
     ensures { λ e. ⌜ shown e ≡ given (take len rules) (passed (take len rules)) ⌝ }
 {
     Edited {
@@ -88,7 +87,7 @@ impl Running {
         ensures { λ r. ⌜ view r ≡ [] ⌝ }
     {
         Running {
-            rules: [0u16; 1024],
+            rules: [0u16; MOST_RULES],
             len: 0,
         }
     }
@@ -97,7 +96,11 @@ impl Running {
     pub fn count(self) -> usize
         ensures { λ n. ⌜ n ≡ length (view self) ⌝ }
     {
-        if self.len < MOST { self.len } else { MOST }
+        if self.len < MOST_RULES {
+            self.len
+        } else {
+            MOST_RULES
+        }
     }
 
     // The list as it stands, and why the command fails.
@@ -121,7 +124,7 @@ impl Running {
         if place != 0 {
             return self.refused(Fault::Present);
         }
-        if MOST <= len {
+        if MOST_RULES <= len {
             return self.refused(Fault::Place);
         }
         let mut rules = self.rules;
@@ -159,7 +162,7 @@ impl Running {
         if place != 0 {
             return self.refused(Fault::Present);
         }
-        if MOST <= len {
+        if MOST_RULES <= len {
             return self.refused(Fault::Place);
         }
         let old = self.rules;
@@ -200,11 +203,11 @@ impl Running {
 
     // How the list names the rules of a catalogue of `size`; a catalogue has at most 1,024.
     pub fn naming(self, size: usize) -> Naming
-        ensures { λ n. ⌜ n ≡ named (min size 1024) (view self) ⌝ }
+        ensures { λ n. ⌜ n ≡ named (min size most-rules) (view self) ⌝ }
     {
         let len = self.count();
         let rules = self.rules;
-        let top = if size < MOST { size } else { MOST };
+        let top = if size < MOST_RULES { size } else { MOST_RULES };
         if outside(rules, len, top) {
             return Naming::Outside;
         }
@@ -222,76 +225,9 @@ pub enum Naming {
     Once,
 }
 
-// For each rule number below 1,024 its place, 0 if the rule is absent.
-pub struct Places {
-    pub of: [u16; 1024],
-}
-
-impl Places {
-    pub fn none() -> Self
-        ensures { λ p. ⌜ p .of ≡ replicate 1024 0 ⌝ }
-    {
-        Places { of: [0u16; 1024] }
-    }
-
-    // The place of rule r; 0 for a number that the array doesn't have.
-    pub fn place(self, r: u16) -> usize
-        ensures { λ n. ⌜ n ≡ getD (self .of) r 0 ⌝ }
-    {
-        let at = r as usize;
-        if at < MOST {
-            let of = self.of;
-            of[at] as usize
-        } else {
-            0
-        }
-    }
-
-    // The array with rule r absent.
-    pub fn cleared(self, r: u16) -> Self
-        ensures { λ p. ⌜ p .of ≡ set (self .of) r 0 ⌝ }
-    {
-        let mut of = self.of;
-        let at = r as usize;
-        if at < MOST {
-            of[at] = 0;
-        }
-        Places { of }
-    }
-
-    // The array with the list's rules numbered anew, from index `from` on.
-    pub fn numbered(self, list: Running, from: usize) -> Self
-        ensures { λ p. ⌜ p .of ≡ renumbered (suc from) (drop from (view list)) (self .of) ⌝ }
-    {
-        let len = list.count();
-        let rules = list.rules;
-        let mut of = self.of;
-        let mut k = from;
-        while k < len {
-            let at = rules[k] as usize;
-            if at < MOST {
-                of[at] = (k + 1) as u16;
-            }
-            k += 1;
-        }
-        Places { of }
-    }
-}
-
-// The place of rule r in the list that a side array speaks of, the array lent; 0 for a number that it doesn't have.
-pub fn place_of(places: &[u16], r: u16) -> usize
-    ensures { λ n. ⌜ n ≡ getD (now (places .entry)) r 0 ⌝ }
-{
-    let at = r as usize;
-    if places.len() <= at {
-        return 0;
-    }
-    places[at] as usize
-}
-
 // Whether one of the first `len` rules has a number of `size` or more.
-fn outside(rules: [u16; 1024], len: usize, size: usize) -> bool
-    requires { ⌜ len ≤ 1024 ⌝ }
+fn outside(rules: [u16; MOST_RULES], len: usize, size: usize) -> bool
+    requires { ⌜ len ≤ most-rules ⌝ }
     ensures { λ b. ⌜ b ≡ not (all (λ r. ltb r size) (take len rules)) ⌝ }
 {
     let mut k = 0;
@@ -305,11 +241,11 @@ fn outside(rules: [u16; 1024], len: usize, size: usize) -> bool
 }
 
 // Whether one of the first `len` rules, all below 1,024, is there twice: from the last on, each is looked for among those behind it.
-fn twice(rules: [u16; 1024], len: usize) -> bool
-    requires { ⌜ (len ≤ 1024) × (all (λ r. ltb r 1024) (take len rules) ≡ true) ⌝ }
+fn twice(rules: [u16; MOST_RULES], len: usize) -> bool
+    requires { ⌜ (len ≤ most-rules) × (all (λ r. ltb r most-rules) (take len rules) ≡ true) ⌝ }
     ensures { λ b. ⌜ b ≡ not (differ (take len rules)) ⌝ }
 {
-    let mut seen = [false; 1024];
+    let mut seen = [false; MOST_RULES];
     let mut k = len;
     while 0 < k {
         k -= 1;

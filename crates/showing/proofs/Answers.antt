@@ -7,8 +7,8 @@ use denote.Ref.{now}
 use lib.ListN.{length}
 use Rattle.deployment.specs.declared.Written.{Written}
 use Rattle.deployment.specs.declared.Written.the-variants.{Bytes}
-use Rattle.listing.specs.Claims.{IsFile}
-use Rattle.listing.proofs.Answers.{same-answers, written-all}
+use Rattle.lines.specs.Printing.{IsFile}
+use Rattle.lines.proofs.HandedOver.{same-answers, written-all}
 use Rattle.showing.specs.Text.{showPrinted}
 use Rattle.showing.specs.Printing.{most-shown}
 use Rattle.showing.proofs.Claims.{show-text-fits}

@@ -6,8 +6,8 @@ use mathlib.Core.Path.{_≡_, refl}
 use lib.ListN.{length}
 use Rattle.deployment.specs.File.{Reading, accepted, refused, readFile}
 use Rattle.deployment.proofs.Reader.{written-again}
-use Rattle.listing.proofs.Claims.{position-inside}
-use Rattle.listing.proofs.Lengths.{refused-short}
+use Rattle.lines.proofs.Lengths.{position-inside}
+use Rattle.lines.proofs.Lengths.{refused-short}
 use Rattle.showing.specs.Text.{showPrinted}
 use Rattle.showing.specs.Printing.{most-shown}
 use Rattle.showing.specs.Claims.{ShowTextFits}

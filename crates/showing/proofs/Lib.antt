@@ -1,7 +1,4 @@
 -- Laws of the text, by which its printers are proved.
-pub mod Numbers
-pub mod RangeForms
-pub mod RuleLines
 pub mod NumberLines
 pub mod Scripts
 pub mod Lengths

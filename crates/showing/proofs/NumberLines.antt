@@ -1,13 +1,13 @@
--- The numbers of a list on one line: the first, then each behind a blank, then the end of the line. Assumes nothing.
+-- The numbers of a list on one line: the first, then each behind a blank, then the end of the line; and its head above it. Assumes nothing.
 use Prim.Native.Nat.{ℕ, _≤_}
 use native.Mathlib.Omega.{arith}
-use mathlib.Core.Path.{_≡_, refl}
-use mathlib.Core.List.{List, [], _∷_, _++_}
+use mathlib.Core.Path.{_≡_, refl, sym}
+use mathlib.Core.List.{List, [], _∷_, _++_, append-assoc}
 use lib.ListN.{length, getD, drop}
-use Rattle.listing.specs.Text.{text, decimal, spacedAll}
-use Rattle.listing.specs.Printing.{Puts}
-use Rattle.listing.proofs.Lines.{Lines}
-use Rattle.showing.specs.Text.{numbersText}
+use Rattle.lines.specs.Text.{text, decimal, spaced, spacedAll}
+use Rattle.lines.specs.Printing.{Puts}
+use Rattle.lines.proofs.Lines.{Lines}
+use Rattle.showing.specs.Text.{numbersText, listText}
 
 -- the text of numbers that follow, wherever they stand
 abbrev pub following : ℕ → List ℕ → List ℕ
@@ -26,3 +26,8 @@ pub numbers-line : (numbers : List ℕ) → 1 ≤ length numbers
 unfolding numbersText
 numbers-line [] some = absurd (omega arith)
 numbers-line (n ∷ numbers) some = refl
+
+-- A list behind a word: its head, the end of the head's line and the numbers.
+pub list-behind : (word numbers : List ℕ) → word ++ listText numbers ≡ (word ++ spaced (length numbers)) ++ (text "\n" ++ numbersText numbers)
+unfolding listText
+list-behind word numbers = sym (append-assoc word (spaced (length numbers)) (text "\n" ++ numbersText numbers))

@@ -13,7 +13,7 @@ use Rattle.deployment.proofs.Records.{first-byte}
 use Rattle.deployment.proofs.Scripts.{script-of}
 use Rattle.replay.specs.Answers.{commandsOf, Readable}
 use Rattle.replay.proofs.Scripts.{script-count}
-use Rattle.listing.specs.Text.{text, named, linesText}
+use Rattle.lines.specs.Text.{text, named, linesText}
 use Rattle.showing.specs.Text.{scriptText}
 
 pub script-starts : (value : List ℕ) → Readable value → 1 ≤ length value

@@ -1,11 +1,11 @@
 -- The text of a file: the refusal's line, or what stands in the file, part by part, read from where it stands. Assumes nothing.
-use Prim.Native.Nat.{ℕ, _*_, _≤_, _<_}
+use Prim.Native.Nat.{ℕ, _≤_, _<_}
 use native.Mathlib.Omega.{arith}
 use mathlib.Core.Path.{_≡_, refl, sym, _∙_, ap}
 use mathlib.Core.Bool.{Bool, true, false, cond}
 use mathlib.Core.List.{List, _++_, List·Memᴰ}
 use mathlib.Core.Option.{Option, none, some}
-use lib.ListN.{length, length-append, take, length-take}
+use lib.ListN.{length, length-append, take}
 use Rattle.policy.proofs.Order.{sublist-in, sublist-length}
 use Rattle.deployment.specs.Values.{Script, numbersOf, scriptOf}
 use Rattle.deployment.specs.Catalogue.{catalogueOf}
@@ -13,18 +13,19 @@ use Rattle.deployment.specs.Contents.{Contents}
 use Rattle.deployment.specs.File.{accepted, refused, readFile}
 use Rattle.deployment.specs.Properties.{IfThere, Valid}
 use Rattle.deployment.specs.declared.Refusal.{Refusal}
-use Rattle.deployment.proofs.Records.{catalogue-length}
 use Rattle.policy.specs.Claims.{Keepable}
-use Rattle.reader.specs.Answers.{valueAt, there}
+use Rattle.values.specs.Answers.{there}
+use Rattle.reader.specs.Answers.{valueAt}
 use Rattle.reader.specs.Claims.{ListStands, ScriptStands, Stands}
 use Rattle.reader.specs.declared.Layout.{Layout}
 use Rattle.reader.specs.declared.Span.{Span}
-use Rattle.reader.proofs.Rules.{records-fit}
 use Rattle.replay.specs.Answers.{Readable}
-use Rattle.listing.specs.Text.{text, refusedText}
-use Rattle.showing.specs.Text.{catalogueText, listText, policiesText, keepText, scriptText, showText, showPrinted}
+use Rattle.lines.specs.Text.{text, refusedText}
+use Rattle.rule_lines.specs.Text.{catalogueText}
+use Rattle.rule_lines.proofs.Lengths.{catalogue-short}
+use Rattle.showing.specs.Text.{listText, policiesText, keepText, scriptText, showText, showPrinted}
 use Rattle.showing.specs.Printing.{most-shown}
-use Rattle.showing.proofs.Lengths.{catalogue-short, list-short, keep-short, script-short}
+use Rattle.showing.proofs.Lengths.{list-short, keep-short, script-short}
 
 pub printed-refusal : (file : List ℕ) (refusal : Refusal) → readFile file ≡ refused refusal → showPrinted file ≡ refusedText refusal
 unfolding showPrinted
@@ -56,34 +57,6 @@ script-readable file span none stands e = absurd (let z : _≡_ {A = Bool} false
     true-false z = let y : _≡_ {A = ℕ} 0 1 = cc in omega arith
 script-readable file span (some script) stands e = (script, stands .script)
 
--- What stands in a file: its rules are there, and the text of its parts is that of its contents.
-module _ {file : List ℕ} {layout : Layout} {c : Contents} (stands : Stands file layout c) where
-  pub rules-fit : layout .rules * 30 ≤ length file
-  rules-fit =
-      records-fit 3 (layout .rules) file
-      (omega (arith, ap length (stands .among), stands .count, length-take (layout .rules) (catalogueOf 3 file), catalogue-length 3 file))
-
-  pub parts-shown :
-      catalogueText (take (layout .rules) (catalogueOf 3 file))
-      ++ (policiesText (numbersOf (valueAt (layout .initial) file)) (numbersOf (valueAt (layout .target) file))
-      ++ (keepText (cond (layout .«has_keep») (some (numbersOf (valueAt (layout .keep) file))) none)
-      ++ scriptText (cond (layout .«has_script») (scriptOf (valueAt (layout .script) file)) none)))
-      ≡ showText c
-  unfolding showText
-  parts-shown =
-      rw (
-        stands .among,
-        stands .initial .numbers,
-        stands .target .numbers,
-        stands .has-keep,
-        keep-is file (layout .keep) (c .keep) (stands .keep),
-        stands .has-script,
-        script-is file (layout .script) (c .script) (stands .script),
-      )
-
-  pub script-reads : layout .«has_script» ≡ true → Readable (valueAt (layout .script) file)
-  script-reads has = script-readable file (layout .script) (c .script) (stands .script) (sym (stands .has-script) ∙ has)
-
 -- How long all of it is.
 keep-lists : (size : ℕ) (initial target : List ℕ) (keep : Option (List ℕ)) → length initial ≤ 512
     → ((n : ℕ) → List·Memᴰ n initial → n < 65536) → Keepable initial target keep → IfThere (λ numbers. length (listText numbers) ≤ 3079) keep
@@ -106,3 +79,38 @@ shown-short c valid =
       keep-short (c .keep) (keep-lists (length (c .catalogue)) (c .initial) (c .target) (c .keep) (valid .initial .few) initial (valid .keep)),
       script-short (c .script) (valid .script),
     ))
+
+-- What stands in a file: the text of its parts is that of its contents.
+module _ {file : List ℕ} {layout : Layout} {c : Contents} (stands : Stands file layout c) where
+  parts-shown :
+      catalogueText (take (layout .rules) (catalogueOf 3 file))
+      ++ (policiesText (numbersOf (valueAt (layout .initial) file)) (numbersOf (valueAt (layout .target) file))
+      ++ (keepText (cond (layout .«has_keep») (some (numbersOf (valueAt (layout .keep) file))) none)
+      ++ scriptText (cond (layout .«has_script») (scriptOf (valueAt (layout .script) file)) none)))
+      ≡ showText c
+  unfolding showText
+  parts-shown =
+      rw (
+        stands .among,
+        stands .initial .numbers,
+        stands .target .numbers,
+        stands .has-keep,
+        keep-is file (layout .keep) (c .keep) (stands .keep),
+        stands .has-script,
+        script-is file (layout .script) (c .script) (stands .script),
+      )
+
+  module _ (is : readFile file ≡ accepted c) where
+    pub parts-printed :
+        catalogueText (take (layout .rules) (catalogueOf 3 file))
+        ++ (policiesText (numbersOf (valueAt (layout .initial) file)) (numbersOf (valueAt (layout .target) file))
+        ++ (keepText (cond (layout .«has_keep») (some (numbersOf (valueAt (layout .keep) file))) none)
+        ++ scriptText (cond (layout .«has_script») (scriptOf (valueAt (layout .script) file)) none)))
+        ≡ showPrinted file
+    parts-printed = parts-shown ∙ sym (printed-contents file c is)
+
+    pub printed-short : length (showPrinted file) ≤ most-shown
+    printed-short = rw (printed-contents file c is) (shown-short c (stands .valid))
+
+  pub script-reads : layout .«has_script» ≡ true → Readable (valueAt (layout .script) file)
+  script-reads has = script-readable file (layout .script) (c .script) (stands .script) (sym (stands .has-script) ∙ has)

@@ -3,7 +3,7 @@
 use Prim.Native.Nat.{ℕ, _≤_}
 use mathlib.Core.List.{List}
 use lib.ListN.{length}
-use Rattle.listing.specs.Claims.{IsFile}
+use Rattle.lines.specs.Printing.{IsFile}
 use Rattle.showing.specs.Text.{showPrinted}
 use Rattle.showing.specs.Printing.{most-shown}
 

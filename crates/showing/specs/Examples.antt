@@ -1,52 +1,13 @@
--- Worked examples of the text: contents with every form that a rule, a list and a script can take. Assumes nothing.
-use Prim.Native.Nat.{ℕ}
+-- Worked examples of the text: contents with every form that a list and a script can take. Its rules are those of
+-- `rule_lines`. Assumes nothing.
 use mathlib.Core.Path.{_≡_}
 use mathlib.Core.List.{[], _∷_}
 use mathlib.Core.Option.{none, some}
-use Rattle.policy.specs.Rule.{Range, Rule}
-use Rattle.policy.specs.declared.Action.the-variants.{Deny, Permit}
 use Rattle.policy.specs.declared.Command.the-variants.{App, DelRule, Ins, DelPlace, Mov}
 use Rattle.deployment.specs.Contents.{Contents}
-use Rattle.listing.specs.Text.{text}
-use Rattle.showing.specs.Text.{rangeText, showText}
-
-unfoldable pub range : ℕ → ℕ → Range
-range low high = record { low = low; high = high }
-
--- a range, a single number and a full range of each width
-unfoldable pub web : Rule
-web =
-    record {
-      action = Permit;
-      protocol = range 6 6;
-      source = range 167772160 167772415;
-      source-port = range 0 65535;
-      destination = range 3232235777 3232235777;
-      destination-port = range 443 443;
-    }
-
-unfoldable pub high-ports : Rule
-high-ports =
-    record {
-      action = Deny;
-      protocol = range 6 17;
-      source = range 0 4294967295;
-      source-port = range 1024 65535;
-      destination = range 0 4294967294;
-      destination-port = range 0 0;
-    }
-
--- "permit, protocol 0 to 255, ..": all full but the action
-unfoldable pub rest : Rule
-rest =
-    record {
-      action = Deny;
-      protocol = range 0 255;
-      source = range 0 4294967295;
-      source-port = range 0 65535;
-      destination = range 0 4294967295;
-      destination-port = range 0 65535;
-    }
+use Rattle.lines.specs.Text.{text}
+use Rattle.rule_lines.specs.Examples.{web, high-ports, rest}
+use Rattle.showing.specs.Text.{showText}
 
 -- a keep list, and a script of inserts, deletes and moves
 unfoldable pub with-both : Contents
@@ -89,16 +50,10 @@ empty = record { catalogue = []; initial = []; target = []; keep = none; script 
 abbrev pub EmptyShown : Type 0
 EmptyShown = showText empty ≡ text "rules 0\ninitial 0\ntarget 0\nkeep absent\nscript absent\n"
 
--- an empty script, and ranges that lack only their lowest or their highest number: these aren't `any`
+-- an empty script
 unfoldable pub no-command : Contents
 no-command =
     record { catalogue = []; initial = []; target = []; keep = none; script = some (record { type = 1; commands = [] }) }
 
-abbrev pub FormsShown : Type 0
-FormsShown =
-    (showText no-command ≡ text "rules 0\ninitial 0\ntarget 0\nkeep absent\nscript type 1 commands 0\n")
-    × (rangeText 1 (range 1 255) ≡ text "1-255")
-    × (rangeText 1 (range 0 254) ≡ text "0-254")
-    × (rangeText 2 (range 0 255) ≡ text "0-255")
-    × (rangeText 4 (range 0 65535) ≡ text "0.0.0.0-0.0.255.255")
-    × (rangeText 4 (range 16909060 16909060) ≡ text "1.2.3.4")
+abbrev pub NoCommandShown : Type 0
+NoCommandShown = showText no-command ≡ text "rules 0\ninitial 0\ntarget 0\nkeep absent\nscript type 1 commands 0\n"

@@ -1,30 +1,25 @@
 // The whole text of a deployment file, built in a lent place from the bytes of the file. What is printed is in specs/Text.antt.
 
 ghost use mathlib.Core.Path.{_≡_};
-ghost use Rattle.deployment.specs.Contents.{Contents};
-ghost use Rattle.deployment.specs.File.{accepted, readFile};
 ghost use Rattle.deployment.specs.FieldValues.{leftBy, writing};
-ghost use Rattle.listing.specs.Printing.{Puts, Whole, Needed};
+ghost use Rattle.lines.specs.Printing.{Whole, Needed};
 ghost use Rattle.reader.specs.Answers.{fileRead};
 ghost use Rattle.reader.specs.declared.FileRead.the-variants.{Accepted};
-ghost use Rattle.showing.specs.Text.{showText, showPrinted};
+ghost use Rattle.showing.specs.Text.{showPrinted};
 ghost use Rattle.showing.specs.Printing.{most-shown};
 use deployment::Refusal;
 use deployment::Why;
 use deployment::Written;
-use listing::outcomes::put_refused;
+use lines::outcomes::put_refused;
 use lists::put_keep;
 use lists::put_policies;
 use lists::put_script;
 use reader::FileRead;
 use reader::Layout;
 use reader::file::read;
-use reader::file::value;
-use rules::put_catalogue;
+use rule_lines::rules::put_catalogue;
 
 mod lists;
-mod ranges;
-mod rules;
 
 // No text is longer: a place of so many bytes is never too small.
 pub const MOST_SHOWN: usize = 262144;
@@ -68,17 +63,10 @@ fn put_shown(file: &[u8], place: &mut [u8]) -> usize
 // The catalogue, both policies, the keep list and the script of an accepted file.
 fn put_contents(file: &[u8], layout: Layout, place: &mut [u8]) -> usize
     requires { ⌜ Accepted layout ≡ fileRead (now file) ⌝ }
-    ensures { λ next. ⌜
-        ((c : Contents) → readFile (now (file .entry)) ≡ accepted c
-        → Puts (now (place .entry)) 0 (showText c) (now (place .exit)) next) ⌝ }
+    ensures { λ next. ⌜ Whole most-shown (now (place .entry)) (showPrinted (now (file .entry))) (now (place .exit)) next ⌝ }
 {
     let mut next = put_catalogue(place, 0, file, layout.rules);
-    next = put_policies(
-        place,
-        next,
-        value(file, layout.initial),
-        value(file, layout.target),
-    );
-    next = put_keep(place, next, layout.has_keep, value(file, layout.keep));
-    put_script(place, next, layout.has_script, value(file, layout.script))
+    next = put_policies(place, next, file, layout.initial, layout.target);
+    next = put_keep(place, next, layout.has_keep, file, layout.keep);
+    put_script(place, next, layout.has_script, file, layout.script)
 }

@@ -5,9 +5,11 @@ use mathlib.Core.Path.{_≡_, refl, ap}
 use mathlib.Core.Bool.{true}
 use lib.IntN.{pos, negsuc}
 use borrow.Author.Tests.{ltb-true}
-use Rattle.streams.specs.Reading.{brought}
-use Rattle.streams.specs.Claims.{FailedBelowZero, EndedAtZero, CameAsCounted}
+use Rattle.streams.specs.Reading.{brought, nextOf}
+use Rattle.streams.specs.Claims.{FailedBelowZero, EndedAtZero, CameAsCounted, UnreadableBelowZero}
 use Rattle.streams.specs.declared.Piece.the-variants.{Bytes, End, Failed}
+use Rattle.streams.specs.declared.Input.the-variants.{Unreadable}
+use Rattle.streams.specs.declared.Next.the-variants.{Over}
 
 never-failed : (n : ℕ) → brought n ≡ Failed → ⊥
 never-failed zero e = let z : _≡_ {A = ℕ} 0 1 = cc in omega arith
@@ -31,3 +33,11 @@ ended-at-zero (negsuc k) most h = (λ e. let z : _≡_ {A = ℕ} 0 1 = cc in abs
 
 pub came-as-counted : CameAsCounted
 came-as-counted n most h k = let e : min n most ≡ n = omega arith in rw e (some n h)
+
+never-unreadable : (n done : ℕ) → nextOf (brought n) done ≡ Over Unreadable → ⊥
+never-unreadable zero done e = let z : _≡_ {A = ℕ} 0 1 = cc in omega arith
+never-unreadable (suc n) done e = let z : _≡_ {A = ℕ} 0 1 = cc in omega arith
+
+pub unreadable-below-zero : UnreadableBelowZero
+unreadable-below-zero (pos k) most done = (λ e. absurd (never-unreadable (min k most) done e), λ h. absurd (omega (arith, ltb-true k 0 h)))
+unreadable-below-zero (negsuc k) most done = (λ e. refl, λ h. refl)

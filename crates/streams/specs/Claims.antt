@@ -5,8 +5,10 @@ use mathlib.Core.Bool.{true}
 use mathlib.Core.Logic.{_↔_}
 use lib.IntN.{ℤ, pos}
 use lib.Signed.{ltZ}
-use Rattle.streams.specs.Reading.{pieceOf}
+use Rattle.streams.specs.Reading.{pieceOf, nextOf}
 use Rattle.streams.specs.declared.Piece.the-variants.{Bytes, End, Failed}
+use Rattle.streams.specs.declared.Input.the-variants.{Unreadable}
+use Rattle.streams.specs.declared.Next.the-variants.{Over}
 
 -- a read has failed exactly when its answer is below 0
 abbrev pub FailedBelowZero : Type 0
@@ -19,3 +21,7 @@ EndedAtZero = (answer : ℤ) (most : ℕ) → 0 < most → (pieceOf answer most 
 -- any other answer is the number of bytes that came
 abbrev pub CameAsCounted : Type 0
 CameAsCounted = (n most : ℕ) → 0 < n → n ≤ most → pieceOf (pos n) most ≡ Bytes n
+
+-- a read makes the input unreadable exactly when its answer is below 0, however many bytes came before it
+abbrev pub UnreadableBelowZero : Type 0
+UnreadableBelowZero = (answer : ℤ) (most done : ℕ) → (nextOf (pieceOf answer most) done ≡ Over Unreadable) ↔ (ltZ answer (pos 0) ≡ true)

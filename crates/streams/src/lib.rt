@@ -2,7 +2,7 @@
 
 ghost use mathlib.Core.Path.{_≡_};
 ghost use lib.ListN.{length, take};
-ghost use Rattle.streams.specs.Reading.{Fitting, Within, pieceOf};
+ghost use Rattle.streams.specs.Reading.{Fitting, Within, pieceOf, nextOf};
 use deployment::Written;
 use libc::STDERR_FILENO;
 use libc::STDIN_FILENO;
@@ -19,6 +19,12 @@ enum Piece {
     Bytes(usize),
     End,
     Failed,
+}
+
+// What a piece means for the reading: so many bytes more and another read, or that it is over with this answer.
+enum Next {
+    More(usize),
+    Over(Input),
 }
 
 // What a read into a part tells by its answer.
@@ -46,7 +52,18 @@ fn read_piece(place: &mut [u8], done: usize) -> Piece
     piece_of(answer, &place[done..])
 }
 
-// Reads standard input to its end, or as far as the place goes, in as many pieces as it comes in. The first read that fails makes all of it unreadable.
+// What a piece that comes behind `done` bytes means: one that failed makes all of the input unreadable, whatever came before it.
+fn next_of(piece: Piece, done: usize) -> Next
+    ensures { λ r. ⌜ r ≡ nextOf piece done ⌝ }
+{
+    match piece {
+        Piece::Bytes(n) => Next::More(n),
+        Piece::End => Next::Over(Input::Bytes(done)),
+        Piece::Failed => Next::Over(Input::Unreadable),
+    }
+}
+
+// Reads standard input to its end, or as far as the place goes, in as many pieces as it comes in.
 pub fn read_input(place: &mut [u8]) -> Input
     ensures { λ r. ⌜ Within r (length (now (place .exit))) ⌝ }
 {
@@ -54,10 +71,10 @@ pub fn read_input(place: &mut [u8]) -> Input
     let mut done = 0;
     while done < size {
         let piece = read_piece(place, done);
-        match piece {
-            Piece::Bytes(n) => done += n,
-            Piece::End => break,
-            Piece::Failed => return Input::Unreadable,
+        let next = next_of(piece, done);
+        match next {
+            Next::More(n) => done += n,
+            Next::Over(input) => return input,
         }
     }
     Input::Bytes(done)

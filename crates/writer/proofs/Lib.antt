@@ -1,4 +1,4 @@
--- Laws of the writer: pieces put one after another, and the file that they are; what is claimed of the definitions, and of `write`.
+-- Laws of the writer: pieces put one after another, and the file that they are; what is claimed of it, and one answer.
 pub mod Pieces
 pub mod Files
 pub mod Claims

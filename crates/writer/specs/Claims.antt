@@ -1,62 +1,26 @@
--- What a customer buys of the writer, about the definitions. Each claim is a statement; proofs/Claims.antt has, for each, a proof of the
--- same name in small letters with hyphens. Assumes nothing.
-use Prim.Native.Nat.{ℕ, _<_}
+-- What a customer buys of the writer: for field values of accepted contents, what is written is the file of these contents. proofs/Claims.antt
+-- has a proof of the same name in small letters with hyphens; crate `entries` says what comes of it for each answer. Assumes nothing.
+use Prim.Native.Nat.{ℕ, _≤_}
 use mathlib.Core.Path.{_≡_}
-use mathlib.Core.Logic.{_↔_}
-use mathlib.Core.List.{List, [], _∷_}
-use lib.ListN.{length, take, drop}
+use mathlib.Core.Bool.{Bool}
+use mathlib.Core.List.{List}
+use lib.ListN.{length}
 use Rattle.deployment.specs.Contents.{Contents}
-use Rattle.deployment.specs.File.{accepted, readFile, fileOf}
-use Rattle.deployment.specs.FieldValues.{FieldValues, writing, writtenNumbers, readValues}
-use Rattle.deployment.specs.Properties.{AreBytes, ValuesFail}
-use Rattle.deployment.specs.Claims.{valuesOf, AreValues}
-use Rattle.deployment.specs.declared.Written.the-variants.{Bytes}
-use Rattle.reader.specs.Answers.{valuesGathered, fileRead}
-use Rattle.reader.specs.declared.Layout.{Layout}
-use Rattle.reader.specs.declared.FileRead.the-variants.{Accepted}
-use Rattle.writer.specs.Answers.{writtenValues}
+use Rattle.deployment.specs.File.{fileOf}
+use Rattle.deployment.specs.Properties.{Valid}
+use Rattle.deployment.specs.Claims.{valuesOf}
+use Rattle.values.specs.Answers.{valuesGiven}
+use Rattle.writer.specs.Answers.{givenBytes, needed}
 
--- "what it writes reads back as the same contents", and "the rest keep theirs"
-pub record ReadsBack (v : FieldValues) (before after : List ℕ) (n : ℕ) : Type 0 where
-  pub contents : Contents
-  pub given : readValues v ≡ accepted contents
-  pub back : readFile (take n after) ≡ accepted contents
-  pub rest : drop n after ≡ drop n before
+abbrev pub GivenIsFile : Type 0
+GivenIsFile =
+    (rules initial target : List ℕ) (has-keep : Bool) (keep : List ℕ) (has-script : Bool) (script : List ℕ) (c : Contents)
+    → valuesOf c ≡ valuesGiven rules initial target has-keep keep has-script script
+    → givenBytes rules initial target has-keep keep has-script script ≡ fileOf c
 
-abbrev pub WrittenReadsBack : Type 0
-WrittenReadsBack =
-    (v : FieldValues) (place : List ℕ) (n : ℕ) → AreValues v → (writtenValues v place) .answer ≡ Bytes n
-    → ReadsBack v place ((writtenValues v place) .place) n
-
--- "those of an accepted file, written, give that file"
-abbrev pub AcceptedWrittenAgain : Type 0
-AcceptedWrittenAgain =
-    (file : List ℕ) (c : Contents) (place : List ℕ) → AreBytes file → readFile file ≡ accepted c
-    → writtenValues (valuesOf c) place ≡ writing file place
-
--- and so do its parts, gathered
-abbrev pub GatheredWrittenAgain : Type 0
-GatheredWrittenAgain =
-    (file : List ℕ) (layout : Layout) (place : List ℕ) → AreBytes file → fileRead file ≡ Accepted layout
-    → writtenValues (valuesGathered layout file) place ≡ writing file place
-
--- "When turned away, every lent place keeps its bytes"
-abbrev pub TurnedAwayKeeps : Type 0
-TurnedAwayKeeps =
-    (v : FieldValues) (place : List ℕ) (number at : ℕ) → writtenNumbers ((writtenValues v place) .answer) ≡ number ∷ at ∷ []
-    → (writtenValues v place) .place ≡ place
-
--- Refusal 13: "lent room smaller than what is to be written", at the bytes needed, and only where the values are accepted
-abbrev pub TooSmall : FieldValues → List ℕ → ℕ → Type 0
-TooSmall v place at = (c : Contents) × (readValues v ≡ accepted c) × (length place < length (fileOf c)) × (at ≡ length (fileOf c))
-
-abbrev pub RefusedForRoom : Type 0
-RefusedForRoom =
-    (v : FieldValues) (place : List ℕ) (at : ℕ)
-    → (writtenNumbers ((writtenValues v place) .answer) ≡ 13 ∷ at ∷ []) ↔ TooSmall v place at
-
--- Every other number is that of the values, however large the place is.
-abbrev pub RefusedForValues : Type 0
-RefusedForValues =
-    (v : FieldValues) (place : List ℕ) (number at : ℕ) → ¬ (number ≡ 13)
-    → (writtenNumbers ((writtenValues v place) .answer) ≡ number ∷ at ∷ []) ↔ (ValuesFail v number × (at ≡ 0))
+-- A file of accepted contents has at most 44,045 bytes, and so do the values that it is written of.
+abbrev pub GivenFits : Type 0
+GivenFits =
+    (rules initial target : List ℕ) (has-keep : Bool) (keep : List ℕ) (has-script : Bool) (script : List ℕ) (c : Contents) → Valid c
+    → valuesOf c ≡ valuesGiven rules initial target has-keep keep has-script script
+    → needed (length rules) (length initial) (length target) has-keep (length keep) has-script (length script) ≤ 44045

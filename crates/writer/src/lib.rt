@@ -1,29 +1,27 @@
-// The writer of the deployment file: from field values to a file in a lent place. Nothing is written before all tests have passed.
+// The writer of the deployment file: from field values that are accepted to a file in a lent place. Nothing is written before the room is
+// tested; values are tested by the crate `entries`.
 
 ghost use mathlib.Core.Path.{_≡_};
 ghost use Prim.Native.Nat.{_+_, _*_, _/_, _≤_, _<_};
 ghost use lib.ListN.{length};
 ghost use Rattle.deployment.specs.File.{fieldBytes};
-ghost use Rattle.deployment.specs.FieldValues.{leftBy, Stored};
-ghost use Rattle.reader.specs.Answers.{valuesGiven};
-ghost use Rattle.writer.specs.Answers.{writtenValues, rulesBytes, fieldIf, bytesIf, needed};
+ghost use Rattle.deployment.specs.FieldValues.{leftBy, writing, Stored};
+ghost use Rattle.writer.specs.Answers.{rulesBytes, listsBytes, givenBytes, fieldIf, bytesIf, listsNeeded, needed};
 use deployment::Refusal;
 use deployment::Why;
 use deployment::Written;
-use deployment::store;
-use reader::Checking;
-use reader::file::HEAD_BYTES;
-use reader::file::INITIAL_TAG;
-use reader::file::KEEP_TAG;
-use reader::file::RULE_TAG;
-use reader::file::SCRIPT_TAG;
-use reader::file::TARGET_TAG;
-use reader::lists::values_checked;
-use reader::values::RULE_BYTES;
+use format::HEAD_BYTES;
+use format::INITIAL_TAG;
+use format::KEEP_TAG;
+use format::RULE_BYTES;
+use format::RULE_TAG;
+use format::SCRIPT_TAG;
+use format::TARGET_TAG;
+use format::store;
 
-// Writes the file of these field values into the first bytes of `place`; the keep list and the script are there if their `has_` says so.
-// When turned away, `place` keeps its bytes.
-pub fn write(
+// Writes the file of accepted field values into the first bytes of `place`; the keep list and the script are there if their `has_` says so.
+// 13 where the place is too small: it then keeps its bytes.
+pub fn write_into(
     rules: &[u8],
     initial: &[u8],
     target: &[u8],
@@ -33,17 +31,16 @@ pub fn write(
     script: &[u8],
     place: &mut [u8],
 ) -> Written
+    requires { ⌜
+        needed (length (now rules)) (length (now initial)) (length (now target)) «has_keep» (length (now keep)) «has_script» (length (now script)) < 65536
+        ⌝ }
     ensures { λ r. ⌜
         leftBy r (now (place .exit))
-        ≡ writtenValues
-        (valuesGiven (now (rules .entry)) (now (initial .entry)) (now (target .entry)) «has_keep» (now (keep .entry)) «has_script» (now (script .entry)))
+        ≡ writing
+        (givenBytes (now (rules .entry)) (now (initial .entry)) (now (target .entry)) «has_keep» (now (keep .entry)) «has_script» (now (script .entry)))
         (now (place .entry))
         ⌝ }
 {
-    let c = values_checked(rules, initial, target, has_keep, keep, has_script, script);
-    if let Checking::Bad(why) = c {
-        return Written::Turned(Refusal { why, at: 0 });
-    }
     let needed = bytes_needed(
         rules.len(),
         initial.len(),
@@ -59,12 +56,25 @@ pub fn write(
             at: needed,
         });
     }
-    let mut at = put_rules(place, rules);
-    at = put_field(place, at, INITIAL_TAG, initial);
-    at = put_field(place, at, TARGET_TAG, target);
+    let mut at = put_lists(place, rules, initial, target);
     at = put_if(place, at, has_keep, KEEP_TAG, keep);
     at = put_if(place, at, has_script, SCRIPT_TAG, script);
     Written::Bytes(at)
+}
+
+// The fields of the rules and of both policies, from the start on.
+fn put_lists(place: &mut [u8], rules: &[u8], initial: &[u8], target: &[u8]) -> usize
+    requires { ⌜
+        (listsNeeded (length (now rules)) (length (now initial)) (length (now target)) ≤ length (now place))
+        × (length (now initial) < 65536) × (length (now target) < 65536)
+        ⌝ }
+    ensures { λ next. ⌜
+        Stored (now (place .entry)) 0 (listsBytes (now (rules .entry)) (now (initial .entry)) (now (target .entry))) (now (place .exit)) next
+        ⌝ }
+{
+    let mut at = put_rules(place, rules);
+    at = put_field(place, at, INITIAL_TAG, initial);
+    put_field(place, at, TARGET_TAG, target)
 }
 
 // "a one-byte tag, a two-byte length, the value", from `at` on; the answer is the position behind it.

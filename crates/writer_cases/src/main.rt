@@ -13,12 +13,12 @@ use cases::print_reading;
 use cases::print_refusal;
 use cases::read_argument;
 use deployment::Written;
-use deployment::two;
+use entries::lists::write;
+use format::two;
 use libc::STDOUT_FILENO;
 use reader::Span;
 use reader::file::read;
 use reader::file::value;
-use writer::write;
 
 const HEAD_BYTES: usize = 5;
 

@@ -1,6 +1,8 @@
-//! One case: field values or a file, the room and the flows; and its bytes.
+//! One case of the entries: field values or a file, the room and the flows; and its bytes.
 
 use super::given::Given;
+use super::row::add_part;
+use crate::format::list_value;
 use crate::rule::Flow;
 
 /// A flow of a protocol without ports.
@@ -29,12 +31,6 @@ fn flows_about(flow: &Flow) -> Vec<u8> {
     [*flow, back, turned].iter().flat_map(Flow::bytes).collect()
 }
 
-/// Adds a part with its two-byte length.
-pub fn add_part(row: &mut Vec<u8>, part: &[u8]) {
-    row.extend_from_slice(&u16::try_from(part.len()).expect("a part of a row").to_be_bytes());
-    row.extend_from_slice(part);
-}
-
 impl Case {
     /// With the given flow for the entries that take one, and three like it for those that take many.
     pub fn new(over: Over, room: usize, flow: Flow) -> Case {
@@ -46,12 +42,14 @@ impl Case {
         let (flags, mut parts) = match &self.over {
             Over::File(file) => ([0, 0, 0], vec![file.as_slice()]),
             Over::Lists(given) => (
-                [1, u8::from(given.keep.is_some()), u8::from(given.script.is_some())],
+                [1, u16::from(given.keep.is_some()), u16::from(given.script.is_some())],
                 vec![&given.rules[..], &given.initial, &given.target, given.lent_keep(), given.lent_script()],
             ),
         };
-        let mut bytes = flags.to_vec();
+        let mut bytes = list_value(&flags);
         bytes.extend(u16::try_from(self.room).expect("a room of two bytes").to_be_bytes());
+        // The protocol has two bytes here, so that all numbers have.
+        bytes.push(0);
         bytes.extend(self.flow.bytes());
         parts.push(&self.flows);
         for part in parts {

@@ -1,4 +1,5 @@
-//! What the program must print for a case.
+//! What the program `entry_cases` must print for a case; and the words that it
+//! shares with the programs for reader and writer.
 
 use super::case::{Case, Over};
 use super::given::Given;
@@ -14,23 +15,27 @@ use crate::replay::{self, RunningList};
 /// Contents with the script that is to be replayed.
 type Scripted<'a> = Result<(Contents<'a>, &'a [u8]), Refusal>;
 
-fn or_refused<T>(answer: Result<T, Refusal>, say: impl FnOnce(T) -> String) -> String {
+pub fn or_refused<T>(answer: Result<T, Refusal>, say: impl FnOnce(T) -> String) -> String {
     match answer {
         Ok(answer) => say(answer),
         Err(Refusal { number, position }) => format!("refused {number} at {position}"),
     }
 }
 
+/// The primes of checksums: the greatest of four bytes, and of two.
+const WIDE_PRIME: u64 = 4_294_967_291;
+pub const NARROW_PRIME: u64 = 65_521;
+
 /// A checksum of every byte: a polynomial modulo a prime.
-fn checksum(bytes: &[u8]) -> u64 {
-    bytes.iter().fold(1, |sum, &byte| (sum * 257 + u64::from(byte)) % 4_294_967_291)
+pub fn checksum(bytes: &[u8], prime: u64) -> u64 {
+    bytes.iter().fold(1, |sum, &byte| (sum * 257 + u64::from(byte)) % prime)
 }
 
 /// What a call says that is lent a place, and the place's checksum afterwards.
 fn lent(room: usize, call: impl FnOnce(&mut [u8]) -> String) -> String {
     let mut place = vec![LENT_BYTE; room];
     let said = call(&mut place);
-    format!("{said} place {}", checksum(&place))
+    format!("{said} place {}", checksum(&place, WIDE_PRIME))
 }
 
 /// Start and size of a part of a file.
@@ -49,6 +54,11 @@ fn reading(file: &[u8], contents: &Contents) -> String {
         optional(keep),
         optional(script)
     )
+}
+
+/// What is read of a file: the refusal, or where its values stand.
+pub fn read_line(bytes: &[u8]) -> String {
+    or_refused(file::read(bytes), |contents| reading(bytes, &contents))
 }
 
 fn decision(decision: Decision) -> String {
@@ -100,7 +110,7 @@ fn file_text(bytes: &[u8], case: &Case) -> String {
     let Case { flow, room, .. } = case;
     let contents = file::read(bytes);
     let scripted = file::read_with_script(bytes);
-    let read = or_refused(contents.clone(), |contents| reading(bytes, &contents));
+    let read = read_line(bytes);
     let to_judge = or_refused(scripted.clone(), |(contents, _)| reading(bytes, &contents));
     let decide = |policy: fn(&Contents) -> Vec<u8>| {
         or_refused(contents.clone(), |contents| decision(policy::decide(&contents.rules, &policy(&contents), flow)))

@@ -37,20 +37,17 @@ impl Given {
         self.keep.as_deref().unwrap_or(&ABSENT_KEEP)
     }
 
-    /// A file of these values; bytes that are too many for a rule stand in one more.
+    /// The fields of a file of these values; bytes that are too many for a rule stand in one more.
+    pub fn fields(&self) -> Vec<Vec<u8>> {
+        let rules = self.rules.chunks(RULE_BYTES).map(|rule| field(TAG_RULE, rule));
+        let policies = [field(TAG_INITIAL, &self.initial), field(TAG_TARGET, &self.target)];
+        let keep = self.keep.iter().map(|value| field(TAG_KEEP, value));
+        let script = self.script.iter().map(|value| field(TAG_SCRIPT, value));
+        rules.chain(policies).chain(keep).chain(script).collect()
+    }
+
     pub fn file(&self) -> Vec<u8> {
-        let mut file = Vec::new();
-        for rule in self.rules.chunks(RULE_BYTES) {
-            add_field(&mut file, TAG_RULE, rule);
-        }
-        add_field(&mut file, TAG_INITIAL, &self.initial);
-        add_field(&mut file, TAG_TARGET, &self.target);
-        for (tag, value) in [(TAG_KEEP, &self.keep), (TAG_SCRIPT, &self.script)] {
-            if let Some(value) = value {
-                add_field(&mut file, tag, value);
-            }
-        }
-        file
+        self.fields().concat()
     }
 
     pub fn keep(self, keep: &[u16]) -> Given {
@@ -71,6 +68,13 @@ impl Given {
     pub fn commands(&self) -> Vec<Command> {
         self.script.as_deref().map(commands_of).unwrap_or_default()
     }
+}
+
+/// The bytes of a field.
+pub fn field(tag: u8, value: &[u8]) -> Vec<u8> {
+    let mut bytes = Vec::new();
+    add_field(&mut bytes, tag, value);
+    bytes
 }
 
 /// Policies over so many plain rules.

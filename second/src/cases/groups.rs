@@ -1,9 +1,10 @@
-//! The groups of cases: document 01's examples, rooms, flows, limits; and those
-//! of the other modules.
+//! The groups of cases for the program `entry_cases`: document 01's examples,
+//! rooms, flows, limits; and those of the modules above.
 
 use super::case::{both, both_of_all, Case, Over, NO_PORTS};
 use super::given::{given, Given};
-use super::{faults, made, scripts};
+use super::row::{Group, Trial};
+use super::{expected, faults, made, scripts};
 use crate::commands::Command::*;
 use crate::format::{list_value, MOST_COMMANDS, MOST_IN_POLICY, MOST_RULES, RULE_BYTES};
 use crate::inputs::flow_near;
@@ -152,8 +153,12 @@ fn limits() -> Vec<Case> {
     all.into_iter().flat_map(|given| both(given, GREAT_ROOM, NO_PORTS)).collect()
 }
 
-pub fn all() -> Vec<(&'static str, Vec<Case>)> {
-    vec![
+fn trial(case: Case) -> Trial {
+    Trial { bytes: case.bytes(), text: expected::text(&case) }
+}
+
+pub fn all() -> Vec<Group> {
+    let groups = [
         ("example", examples()),
         ("room", rooms()),
         ("flow", flows()),
@@ -163,5 +168,6 @@ pub fn all() -> Vec<(&'static str, Vec<Case>)> {
         ("fault", faults::all()),
         ("file", made::files()),
         ("list", made::lists()),
-    ]
+    ];
+    groups.map(|(name, cases)| (name, cases.into_iter().map(trial).collect())).into()
 }

@@ -19,8 +19,9 @@ Inv-loop rules skip list flow count left₀ left =
 abbrev μ-loop : tie.MeasureT-loop
 μ-loop rules skip list flow count left₀ left = left
 
-listed-requires : tie.Need-listed-requires Inv-loop μ-loop
-listed-requires c κs = search needs
+-- the start of the function, seen from the head of a turn
+abbrev start : tie.At-loop Inv-loop μ-loop → tie.Start Inv-loop μ-loop
+start head = head .before .before .before .before
 
 loop-holds : tie.Need-loop-holds Inv-loop μ-loop
 loop-holds c =
@@ -32,20 +33,11 @@ loop-holds c =
 sub-k : tie.Need-sub-k Inv-loop μ-loop
 sub-k c = omega arith
 
-number-at-requires : tie.Need-number-at-requires Inv-loop μ-loop
-number-at-requires c κs = search needs
-
 cast-n : tie.Need-cast-n Inv-loop μ-loop
 cast-n c = omega arith
 
-hit-requires : tie.Need-hit-requires Inv-loop μ-loop
-hit-requires c κs = search needs
-
 add-place : tie.Need-add-place Inv-loop μ-loop
 add-place c = omega arith
-
-action-requires : tie.Need-action-requires Inv-loop μ-loop
-action-requires c κs = search needs
 
 returns : tie.Need-returns Inv-loop μ-loop
 unfolding matching
@@ -53,7 +45,7 @@ returns c =
     let head = c .before .before .before .before .before in
     let read = c .before .before .before .number-at in
     let test = c .before .before .hit in
-    let a = c .before .before .before .before .before .before .before .before .before .args in
+    let a = start head .args in
     rw (c .action .ensures)
     (sym (decides-here (matching (catalogueOf (a .skip) (a .rules .now)) (a .flow)) (numbersOf (a .list .now))
     (head .before .listed .result - head .loop .left) (read .result) (test .result) (head .loop .inv .1) (omega arith) (read .ensures) (test .ensures) (c .before .if1 .taken)))
@@ -70,7 +62,7 @@ loop-again c =
     let head = c .before .before .before .before in
     let read = c .before .before .number-at in
     let test = c .before .hit in
-    let a = c .before .before .before .before .before .before .before .before .args in
+    let a = start head .args in
     let count = head .before .listed .result in
     let left = head .loop .left in
     let next : count - (left - 1) ≡ count - left + 1 = omega arith in (
@@ -87,6 +79,18 @@ returns-2 c =
     let a = c .before .before .before .before .before .args in
     sym (decides-none (matching (catalogueOf (a .skip) (a .rules .now)) (a .flow)) (numbersOf (a .list .now))
     (head .before .listed .result - head .loop .left) (head .loop .inv .1) (omega arith))
+
+listed-requires : tie.Need-listed-requires Inv-loop μ-loop
+listed-requires c κs = search needs
+
+number-at-requires : tie.Need-number-at-requires Inv-loop μ-loop
+number-at-requires c κs = search needs
+
+hit-requires : tie.Need-hit-requires Inv-loop μ-loop
+hit-requires c κs = search needs
+
+action-requires : tie.Need-action-requires Inv-loop μ-loop
+action-requires c κs = search needs
 
 pub decided-spec : {M : Type 1} → statement M
 decided-spec =

@@ -8,43 +8,44 @@ use borrow.Author.Needs.{needs}
 use Rattle.decision.proofs.record_matches.Statement.{statement}
 use Rattle.decision.proofs.record_matches.Tie as tie
 
+-- the start of the function, seen from behind the first test; and what stands before each later one
+abbrev start : tie.Else1 → tie.Start
+start c = c .before .before .before
+
+abbrev after-protocol : tie.Else2 → tie.Else1
+after-protocol c = c .before .before
+
+abbrev after-source : tie.Else3 → tie.Else2
+after-source c = c .before .before
+
 -- What holds past each of the four tests.
 past-protocol : (c : tie.Else1)
-    → let a = c .before .before .before .args in
+    → let a = start c .args in
     lies (a .flow .protocol) (rangeAt 1 1 (a .rule .now)) ≡ true
 past-protocol c = passes (c .before .lies-one .ensures) (c .if1 .left)
 
 past-source : (c : tie.Else2)
-    → let a = c .before .before .before .before .before .args in
+    → let a = start (after-protocol c) .args in
     lies (a .flow .source) (rangeAt 3 4 (a .rule .now)) ≡ true
 past-source c = passes (c .before .lies-four .ensures) (c .if2 .left)
 
 past-source-port : (c : tie.Else3)
-    → let a = c .before .before .before .before .before .before .before .args in
+    → let a = start (after-protocol (after-source c)) .args in
     lies (a .flow .«source_port») (rangeAt 11 2 (a .rule .now)) ≡ true
 past-source-port c = passes (c .before .lies-two .ensures) (c .if3 .left)
 
 past-destination : (c : tie.Else4)
-    → let a = c .before .before .before .before .before .before .before .before .before .args in
+    → let a = start (after-protocol (after-source (c .before .before))) .args in
     lies (a .flow .destination) (rangeAt 15 4 (a .rule .now)) ≡ true
 past-destination c = passes (c .before .lies-four2 .ensures) (c .if4 .left)
-
-lies-one-requires : tie.Need-lies-one-requires
-lies-one-requires c κs = search needs
 
 returns : tie.Need-returns
 unfolding matches ruleOf
 returns c = rw (fails (c .before .lies-one .ensures) (c .if1 .taken))
 
-lies-four-requires : tie.Need-lies-four-requires
-lies-four-requires c κs = search needs
-
 returns-2 : tie.Need-returns-2
 unfolding matches ruleOf
 returns-2 c = rw (past-protocol (c .before .before), fails (c .before .lies-four .ensures) (c .if2 .taken))
-
-lies-two-requires : tie.Need-lies-two-requires
-lies-two-requires c κs = search needs
 
 returns-3 : tie.Need-returns-3
 unfolding matches ruleOf
@@ -54,9 +55,6 @@ returns-3 c =
       past-source (c .before .before),
       fails (c .before .lies-two .ensures) (c .if3 .taken),
     )
-
-lies-four-requires-2 : tie.Need-lies-four-requires-2
-lies-four-requires-2 c κs = search needs
 
 returns-4 : tie.Need-returns-4
 unfolding matches ruleOf
@@ -68,9 +66,6 @@ returns-4 c =
       fails (c .before .lies-four2 .ensures) (c .if4 .taken),
     )
 
-lies-two-requires-2 : tie.Need-lies-two-requires-2
-lies-two-requires-2 c κs = search needs
-
 returns-5 : tie.Need-returns-5
 unfolding matches ruleOf
 returns-5 c =
@@ -81,6 +76,21 @@ returns-5 c =
       past-destination (c .before),
     )
     (c .lies-two2 .ensures)
+
+lies-one-requires : tie.Need-lies-one-requires
+lies-one-requires c κs = search needs
+
+lies-four-requires : tie.Need-lies-four-requires
+lies-four-requires c κs = search needs
+
+lies-two-requires : tie.Need-lies-two-requires
+lies-two-requires c κs = search needs
+
+lies-four-requires-2 : tie.Need-lies-four-requires-2
+lies-four-requires-2 c κs = search needs
+
+lies-two-requires-2 : tie.Need-lies-two-requires-2
+lies-two-requires-2 c κs = search needs
 
 pub record-matches-spec : {M : Type 1} → statement M
 record-matches-spec =

@@ -5,10 +5,10 @@ use Rattle.entry_cases.proofs.part_place.Statement.{statement}
 use Rattle.entry_cases.proofs.part_place.Tie as tie
 
 abbrev Inv-loop : tie.InvT-loop
-Inv-loop case number at₀ i₀ at i = Unit {0}
+Inv-loop row from number at₀ i₀ at i = Unit {0}
 
 abbrev μ-loop : tie.MeasureT-loop
-μ-loop case number at₀ i₀ at i = number - i
+μ-loop row from number at₀ i₀ at i = number - i
 
 loop-holds : tie.Need-loop-holds Inv-loop μ-loop
 loop-holds c = search needs

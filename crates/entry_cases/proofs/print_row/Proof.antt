@@ -6,10 +6,10 @@ use Rattle.entry_cases.proofs.print_row.Statement.{statement}
 use Rattle.entry_cases.proofs.print_row.Tie as tie
 
 abbrev Inv-loop : tie.InvT-loop
-Inv-loop row at₀ at = Unit {0}
+Inv-loop words row at₀ at = Unit {0}
 
 abbrev μ-loop : tie.MeasureT-loop
-μ-loop row at₀ at = length row - at
+μ-loop words row at₀ at = length row - at
 
 loop-holds : tie.Need-loop-holds Inv-loop μ-loop
 loop-holds c = search needs

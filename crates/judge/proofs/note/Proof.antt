@@ -28,15 +28,9 @@ looks initial target (Unordered step place) at l h =
 looks initial target NotFull at l h = refl
 looks initial target Safe at l h = refl
 
-enum-told : tie.Need-enum-told
-enum-told c = search needs
-
 returns : tie.Need-returns
 unfolding noted
 returns c = rw (c .enum-told .given .1)
-
-is-ordered-requires : tie.Need-is-ordered-requires
-is-ordered-requires c κs = search needs
 
 first-unsupported-requires : tie.Need-first-unsupported-requires
 first-unsupported-requires c κs =
@@ -50,9 +44,6 @@ returns-2 c =
     let target = numbersOf (a .target .now) in
     looked-unordered initial target (a .found) (a .at) (a .list .now) (c .first-unsupported .result) (c .first-unsupported .ensures)
     ∙ looks initial target (a .found) (a .at) (a .list .now) (at .match .keys2)
-
-is-full-requires : tie.Need-is-full-requires
-is-full-requires c κs = search needs
 
 returns-3 : tie.Need-returns-3
 returns-3 c =
@@ -75,6 +66,15 @@ returns-4 c =
     looked-full initial target (a .found) (a .at) (a .list .now)
     (passes (tests .is-ordered .ensures) (c .before .before .if1 .left)) (passes (c .before .is-full .ensures) (c .if2 .left))
     ∙ looks initial target (a .found) (a .at) (a .list .now) (at .match .keys2)
+
+enum-told : tie.Need-enum-told
+enum-told c = search needs
+
+is-ordered-requires : tie.Need-is-ordered-requires
+is-ordered-requires c κs = search needs
+
+is-full-requires : tie.Need-is-full-requires
+is-full-requires c κs = search needs
 
 pub note-spec : {M : Type 1} → statement M
 note-spec =

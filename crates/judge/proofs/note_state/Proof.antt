@@ -10,30 +10,31 @@ use Rattle.judge.specs.SoFar.{noted}
 use Rattle.judge.proofs.note_state.Statement.{statement}
 use Rattle.judge.proofs.note_state.Tie as tie
 
-count-requires : tie.Need-count-requires
-count-requires c κs = search needs
-
 -- the first rules of the array, as many as are counted, are the list
-shown : (c : tie.After-count)
-    → let list = c .before .before .before .before .before .args .state .list in take (c .count .result) (list .rules) ≡ view list
-shown c = let list = c .before .before .before .before .before .args .state .list in view-count list (c .count .result) (c .count .ensures)
+shown : (c : tie.After-count) → let list = c .before .before .before .args .state .list in take (c .count .result) (list .rules) ≡ view list
+shown c = view-count (c .before .before .before .args .state .list) (c .count .result) (c .count .ensures)
 
 array-share-prefix-rules : tie.Need-array-share-prefix-rules
-array-share-prefix-rules c = omega (arith, c .before .before .count .ensures, view-fits (c .before .before .before .before .before .before .before .args .state .list))
+array-share-prefix-rules c =
+    let counted = c .before .before in omega (arith, counted .count .ensures, view-fits (counted .before .before .before .args .state .list))
 
 slice-aggregate-note : tie.Need-slice-aggregate-note
-slice-aggregate-note c = c .before .before .before .count .ensures ∙ ap length (sym (shown (c .before .before .before)))
-
-slice-aggregate-note-2 : tie.Need-slice-aggregate-note-2
-slice-aggregate-note-2 c = search needs
+slice-aggregate-note c = let counted = c .before .before .before in counted .count .ensures ∙ ap length (sym (shown counted))
 
 note-requires : tie.Need-note-requires
-note-requires c κs = rw (shown (c .before .before .before .before)) (c .before .before .before .before .before .before .before .before .before .pre)
+note-requires c κs = let counted = c .before .before .before .before in rw (shown counted) (counted .before .before .before .pre)
 
 returns : tie.Need-returns
 returns c =
-    let a = c .before .before .before .before .before .before .before .before .before .before .args in
-    c .note .ensures ∙ ap (noted (numbersOf (a .initial .now)) (numbersOf (a .target .now)) (a .found) (a .at)) (shown (c .before .before .before .before .before))
+    let counted = c .before .before .before .before .before in
+    let a = counted .before .before .before .args in
+    c .note .ensures ∙ ap (noted (numbersOf (a .initial .now)) (numbersOf (a .target .now)) (a .found) (a .at)) (shown counted)
+
+count-requires : tie.Need-count-requires
+count-requires c κs = search needs
+
+slice-aggregate-note-2 : tie.Need-slice-aggregate-note-2
+slice-aggregate-note-2 c = search needs
 
 pub note-state-spec : {M : Type 1} → statement M
 note-state-spec =

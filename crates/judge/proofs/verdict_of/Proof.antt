@@ -32,14 +32,9 @@ Inv-loop size initial target script count state₀ found₀ k₀ state found k =
 abbrev μ-loop : tie.MeasureT-loop
 μ-loop size initial target script count state₀ found₀ k₀ state found k = count - k
 
-commands-requires : tie.Need-commands-requires Inv-loop μ-loop
-commands-requires c κs = search needs
-
-list-of-requires : tie.Need-list-of-requires Inv-loop μ-loop
-list-of-requires c κs = search needs
-
-start-requires : tie.Need-start-requires Inv-loop μ-loop
-start-requires c κs = search needs
+-- the start of the function, seen from the head of a turn
+abbrev start-of : tie.At-loop Inv-loop μ-loop → tie.Start Inv-loop μ-loop
+start-of at = at .before .before .before .before .before .before .before .before
 
 -- the first list is the initial policy
 started : (c : tie.After-start Inv-loop μ-loop)
@@ -67,42 +62,24 @@ loop-holds c =
       rw (c .note-state .ensures, is) (verdict-rest initial target (start .args .size) (commandsOf (scriptOf (start .args .script .now)))),
     )
 
-command-at-requires : tie.Need-command-at-requires Inv-loop μ-loop
-command-at-requires c κs = search needs
-
-enum-known-d : tie.Need-enum-known-d Inv-loop μ-loop
-enum-known-d c = search needs
-
-enum-told : tie.Need-enum-told Inv-loop μ-loop
-enum-told c = search needs
-
 -- the loop's test, in the words of the definition
 inside : (c : tie.In-loop Inv-loop μ-loop)
-    → c .before .loop .k < commandCount (c .before .before .before .before .before .before .before .before .before .args .script .now)
+    → c .before .loop .k < commandCount (start-of (c .before) .args .script .now)
 inside c = omega (arith, c .loop-test .taken, c .before .before .before .before .before .commands .ensures)
 
 -- the k-th command
-decodes : (c : tie.After-d Inv-loop μ-loop)
+decodes : (c : tie.After-c Inv-loop μ-loop)
     → let at = c .before .before .before .before in
-    Is (c .d .given .0 .0)
-    ≡ decoded (commandAt (at .before .before .before .before .before .before .before .before .args .script .now) (at .loop .k))
-decodes c = sym (c .d .given .1) ∙ c .before .before .command-at .ensures
+    Is (c .c .given .0 .0)
+    ≡ decoded (commandAt (start-of at .args .script .now) (at .loop .k))
+decodes c = sym (c .c .given .1) ∙ c .before .before .command-at .ensures
 
 returns : tie.Need-returns Inv-loop μ-loop
 returns c =
     let called = c .before .before in
     let at = called .before .before in
-    let start = at .before .before .before .before .before .before .before .before in
+    let start = start-of at in
     absurd (never-wrong (start .args .script .now) (start .pre .3) (at .loop .k) (inside (called .before)) (sym (c .enum-told .given .1) ∙ called .command-at .ensures))
-
-step-requires : tie.Need-step-requires Inv-loop μ-loop
-step-requires c κs = search needs
-
-enum-known-refusal : tie.Need-enum-known-refusal Inv-loop μ-loop
-enum-known-refusal c = search needs
-
-add-at : tie.Need-add-at Inv-loop μ-loop
-add-at c = search needs
 
 returns-2 : tie.Need-returns-2 Inv-loop μ-loop
 returns-2 c =
@@ -111,28 +88,22 @@ returns-2 c =
     let read = stepped .before .before in
     let called = read .before .before in
     let at = called .before .before in
-    let start = at .before .before .before .before .before .before .before .before in
+    let start = start-of at in
     let l = view (at .loop .state .list) in
     breaks-off (numbersOf (start .args .initial .now)) (numbersOf (start .args .target .now)) (start .args .size) (start .args .script .now) (start .pre .3)
     (at .loop .found) (at .loop .k) l (at .loop .inv .2) _ (inside (called .before)) (decodes read) _
     (step-failed (start .args .size) l (at .loop .state .places .of) (at .loop .inv .1) _ (stepped .step .result) (stepped .step .ensures) _ (told .refusal .given .1))
 
-enum-told-2 : tie.Need-enum-told-2 Inv-loop μ-loop
-enum-told-2 c = search needs
-
-add-k : tie.Need-add-k Inv-loop μ-loop
-add-k c = search needs
-
 -- the state after a command that passes
-next-sound : (c : tie.After-next Inv-loop μ-loop)
+next-sound : (c : tie.After-state Inv-loop μ-loop)
     → let stepped = c .before .before .before in
     let at = stepped .before .before .before .before .before .before in
-    let start = at .before .before .before .before .before .before .before .before in
+    let start = start-of at in
     Sound (start .args .size) (view (stepped .step .result .state .list)) (stepped .step .result .state .places .of)
 next-sound c =
     let stepped = c .before .before .before in
     let at = stepped .before .before .before .before .before .before in
-    let start = at .before .before .before .before .before .before .before .before in
+    let start = start-of at in
     step-sound (start .args .size) (view (at .loop .state .list)) (at .loop .state .places .of) (at .loop .inv .1) _ (stepped .step .result) (stepped .step .ensures)
     (c .before .enum-told2 .given .1)
 
@@ -140,7 +111,7 @@ note-state-requires-2 : tie.Need-note-state-requires-2 Inv-loop μ-loop
 note-state-requires-2 c κs =
     let stepped = c .before .before .before in
     let at = stepped .before .before .before .before .before .before in
-    let start = at .before .before .before .before .before .before .before .before in
+    let start = start-of at in
     judging (start .args .size) (numbersOf (start .args .initial .now)) (numbersOf (start .args .target .now)) (stepped .step .result .state .places .of)
     (view (stepped .step .result .state .list)) (start .pre .1) (start .pre .2) (next-sound c)
 
@@ -154,7 +125,7 @@ loop-again c =
     let read = stepped .before .before in
     let called = read .before .before in
     let at = called .before .before in
-    let start = at .before .before .before .before .before .before .before .before in
+    let start = start-of at in
     let l = view (at .loop .state .list) in (
       omega arith,
       next-sound next,
@@ -164,9 +135,6 @@ loop-again c =
           (step-passed (start .args .size) l (at .loop .state .places .of) (at .loop .inv .1) _ (stepped .step .result) (stepped .step .ensures)
           (next .before .enum-told2 .given .1))),
     )
-
-ends-at-requires : tie.Need-ends-at-requires Inv-loop μ-loop
-ends-at-requires c κs = search needs
 
 -- all commands have passed: the last list decides
 ended : (c : tie.After-ends-at Inv-loop μ-loop)
@@ -189,6 +157,39 @@ returns-3 c = sym (rw (fails (c .before .ends-at .ensures) (c .if1 .taken)) at (
 returns-4 : tie.Need-returns-4 Inv-loop μ-loop
 returns-4 c = sym (rw (passes (c .before .ends-at .ensures) (c .if1 .left)) at (ended (c .before)))
 
+commands-requires : tie.Need-commands-requires Inv-loop μ-loop
+commands-requires c κs = search needs
+
+list-of-requires : tie.Need-list-of-requires Inv-loop μ-loop
+list-of-requires c κs = search needs
+
+start-requires : tie.Need-start-requires Inv-loop μ-loop
+start-requires c κs = search needs
+
+command-at-requires : tie.Need-command-at-requires Inv-loop μ-loop
+command-at-requires c κs = search needs
+
+enum-known-c : tie.Need-enum-known-c Inv-loop μ-loop
+enum-known-c c = search needs
+
+enum-told : tie.Need-enum-told Inv-loop μ-loop
+enum-told c = search needs
+
+add-k : tie.Need-add-k Inv-loop μ-loop
+add-k c = search needs
+
+step-requires : tie.Need-step-requires Inv-loop μ-loop
+step-requires c κs = search needs
+
+enum-known-refusal : tie.Need-enum-known-refusal Inv-loop μ-loop
+enum-known-refusal c = search needs
+
+enum-told-2 : tie.Need-enum-told-2 Inv-loop μ-loop
+enum-told-2 c = search needs
+
+ends-at-requires : tie.Need-ends-at-requires Inv-loop μ-loop
+ends-at-requires c κs = search needs
+
 pub verdict-of-spec : {M : Type 1} → statement M
 verdict-of-spec =
     tie.close
@@ -201,15 +202,14 @@ verdict-of-spec =
     note-state-requires
     loop-holds
     command-at-requires
-    enum-known-d
+    enum-known-c
     enum-told
     returns
+    add-k
     step-requires
     enum-known-refusal
-    add-at
     returns-2
     enum-told-2
-    add-k
     note-state-requires-2
     loop-less
     loop-again

@@ -1,12 +1,28 @@
 -- `put_judged` meets its contract: the refusal's line, or the verdict's. Assumes nothing.
+use native.Mathlib.Omega.{arith}
 use mathlib.Core.Path.{sym, _∙_}
+use Rattle.lines.proofs.Pieces.{whole-wider}
 use Rattle.listing.proofs.JudgeTexts.{printed-refusal, printed-verdict}
 use borrow.Author.Needs.{needs}
 use Rattle.listing.proofs.put_judged.Statement.{statement}
 use Rattle.listing.proofs.put_judged.Tie as tie
 
-judge-file-requires : tie.Need-judge-file-requires
-judge-file-requires c κs = search needs
+returns : tie.Need-returns
+returns c =
+    let found = c .before .before .before .before .before in
+    let judged = found .before .before in
+    let file = judged .before .before .before .args .file .now in
+    rw (printed-refusal file (found .found .given .0 .0) (sym (found .found .given .1) ∙ judged .judge .ensures)) (whole-wider (c .before .before .put-refused .ensures) (omega arith))
+
+returns-2 : tie.Need-returns-2
+returns-2 c =
+    let found = c .before .before .before .before .before in
+    let judged = found .before .before in
+    let file = judged .before .before .before .args .file .now in
+    rw (printed-verdict file (found .found2 .given .0 .0) (sym (found .found2 .given .1) ∙ judged .judge .ensures)) (whole-wider (c .before .before .put-verdict .ensures) (omega arith))
+
+judge-requires : tie.Need-judge-requires
+judge-requires c κs = search needs
 
 enum-known-found : tie.Need-enum-known-found
 enum-known-found c = search needs
@@ -23,28 +39,14 @@ put-verdict-requires c κs = search needs
 same-length : tie.Need-same-length
 same-length c = search needs
 
-returns : tie.Need-returns
-returns c =
-    let found = c .before .before .before .before .before in
-    let judged = found .before .before in
-    let file = judged .before .before .before .args .file .now in
-    rw (printed-refusal file (found .found .given .0 .0) (sym (found .found .given .1) ∙ judged .judge-file .ensures)) (c .before .before .put-refused .ensures)
-
 same-length-2 : tie.Need-same-length-2
 same-length-2 c = search needs
-
-returns-2 : tie.Need-returns-2
-returns-2 c =
-    let found = c .before .before .before .before .before in
-    let judged = found .before .before in
-    let file = judged .before .before .before .args .file .now in
-    rw (printed-verdict file (found .found2 .given .0 .0) (sym (found .found2 .given .1) ∙ judged .judge-file .ensures)) (c .before .before .put-verdict .ensures)
 
 pub put-judged-spec : {M : Type 1} → statement M
 put-judged-spec =
     tie.close
     (tie.spec
-    judge-file-requires
+    judge-requires
     enum-known-found
     put-refused-requires
     enum-known-found-2

@@ -6,7 +6,8 @@ use Rattle.deployment.specs.File.{readFile}
 use Rattle.deployment.proofs.Bytes.{elements-are-bytes}
 use Rattle.reader.specs.Answers.{valueAt}
 use Rattle.reader.proofs.ShownReadings.{file-refused}
-use Rattle.planner.proofs.GivenLists.{Accepts, file-accepted}
+use Rattle.entries.proofs.Given.{Given, file-held, file-given}
+use Rattle.lines.proofs.Pieces.{whole-wider}
 use Rattle.listing.proofs.PlanTexts.{printed-refusal}
 use borrow.Author.Needs.{needs}
 use Rattle.listing.proofs.put_plans.Statement.{statement}
@@ -17,14 +18,33 @@ lists : (c : tie.After-listed2) →
     let found = c .before .before .before .before .before in
     let layout = found .found2 .given .0 .0 in
     let file = found .before .before .before .before .before .args .file .now in
-    Accepts (readFile file) (c .before .before .before .value .result .now) (c .before .value2 .result .now) (layout .«has_keep») (valueAt (layout .keep) file)
+    Given (readFile file) (layout .rules) (c .before .before .before .value .result .now) (c .before .value2 .result .now) (layout .«has_keep»)
+    (valueAt (layout .keep) file)
 lists c =
     let found = c .before .before .before .before .before in
     let read = found .before .before in
     let known = read .before .before in
     let file = known .before .args .file .now in
-    file-accepted file (found .found2 .given .0 .0) _ _ _ (elements-are-bytes file (λ i. omega (arith, known .shared-slice-known .given i)))
-    (sym (found .found2 .given .1) ∙ read .read .ensures) (c .before .before .before .value .ensures) (c .before .value2 .ensures) refl
+    file-given (file-held file (elements-are-bytes file (λ i. omega (arith, known .shared-slice-known .given i))) (read .read .ensures) (found .found2 .given .1))
+    (c .before .before .before .value .ensures) (c .before .value2 .ensures) refl
+
+put-both-requires : tie.Need-put-both-requires
+put-both-requires c κs =
+    let last = c .before in
+    let is = lists last in (
+      is .contents,
+      is .read,
+      last .before .before .listed .ensures ∙ ap length (is .gives .first),
+      last .listed2 .ensures ∙ ap length (is .gives .last),
+    )
+
+returns : tie.Need-returns
+returns c =
+    let found = c .before .before .before .before .before in
+    let read = found .before .before in
+    let file = read .before .before .before .args .file .now in
+    rw (printed-refusal file (found .found .given .0 .0) (file-refused file (found .found .given .0 .0) (sym (found .found .given .1) ∙ read .read .ensures)))
+    (whole-wider (c .before .before .put-refused .ensures) (omega arith))
 
 read-requires : tie.Need-read-requires
 read-requires c κs = search needs
@@ -50,26 +70,8 @@ value-requires-2 c κs = search needs
 listed-requires-2 : tie.Need-listed-requires-2
 listed-requires-2 c κs = search needs
 
-put-both-requires : tie.Need-put-both-requires
-put-both-requires c κs =
-    let last = c .before in
-    let is = lists last in (
-      is .contents,
-      is .read,
-      last .before .before .listed .ensures ∙ ap length (is .gives .first),
-      last .listed2 .ensures ∙ ap length (is .gives .last),
-    )
-
 same-length : tie.Need-same-length
 same-length c = search needs
-
-returns : tie.Need-returns
-returns c =
-    let found = c .before .before .before .before .before in
-    let read = found .before .before in
-    let file = read .before .before .before .args .file .now in
-    rw (printed-refusal file (found .found .given .0 .0) (file-refused file (found .found .given .0 .0) (sym (found .found .given .1) ∙ read .read .ensures)))
-    (c .before .before .put-refused .ensures)
 
 same-length-2 : tie.Need-same-length-2
 same-length-2 c = search needs

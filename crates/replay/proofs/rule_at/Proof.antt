@@ -12,12 +12,6 @@ use borrow.Author.Needs.{needs}
 use Rattle.replay.proofs.rule_at.Statement.{statement}
 use Rattle.replay.proofs.rule_at.Tie as tie
 
-index-of-requires : tie.Need-index-of-requires
-index-of-requires c κs = search needs
-
-count-requires : tie.Need-count-requires
-count-requires c κs = search needs
-
 -- the list has no more rules than there are slots
 shown : (c : tie.Then1) → c .before .before .before .index-of .result < 1024
 shown c =
@@ -45,6 +39,12 @@ returns-2 c =
     let at = c .before .before .before .index-of in
     let a = c .before .before .before .before .args in
     sym (List·getD-eq-default (view (a .list)) 0 {n = a .i - 1} (omega (arith, at .ensures, c .if1 .left, c .before .count .ensures)))
+
+index-of-requires : tie.Need-index-of-requires
+index-of-requires c κs = search needs
+
+count-requires : tie.Need-count-requires
+count-requires c κs = search needs
 
 pub rule-at-spec : {M : Type 1} → statement M
 rule-at-spec =

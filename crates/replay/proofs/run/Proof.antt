@@ -25,24 +25,9 @@ Inv-loop size script count state₀ k₀ state k =
 abbrev μ-loop : tie.MeasureT-loop
 μ-loop size script count state₀ k₀ state k = count - k
 
-commands-requires : tie.Need-commands-requires Inv-loop μ-loop
-commands-requires c κs = search needs
-
 loop-holds : tie.Need-loop-holds Inv-loop μ-loop
 unfolding replay
 loop-holds c = (c .before .before .pre .0, refl)
-
-command-at-requires : tie.Need-command-at-requires Inv-loop μ-loop
-command-at-requires c κs = search needs
-
-enum-known-d : tie.Need-enum-known-d Inv-loop μ-loop
-enum-known-d c = search needs
-
-enum-told : tie.Need-enum-told Inv-loop μ-loop
-enum-told c = search needs
-
-stop-requires : tie.Need-stop-requires Inv-loop μ-loop
-stop-requires c κs = search needs
 
 -- the loop's test, in the words of the definition
 inside : (c : tie.In-loop Inv-loop μ-loop) → c .before .loop .k < commandCount (c .before .before .before .before .args .script .now)
@@ -61,18 +46,6 @@ returns c =
     absurd (never-wrong (start .args .script .now) (start .pre .1) (called .before .before .loop .k) (inside (called .before))
     (sym (told .enum-told .given .1) ∙ called .command-at .ensures))
 
-step-requires : tie.Need-step-requires Inv-loop μ-loop
-step-requires c κs = search needs
-
-enum-known-refusal : tie.Need-enum-known-refusal Inv-loop μ-loop
-enum-known-refusal c = search needs
-
-add-at : tie.Need-add-at Inv-loop μ-loop
-add-at c = search needs
-
-stop-requires-2 : tie.Need-stop-requires-2 Inv-loop μ-loop
-stop-requires-2 c κs = search needs
-
 returns-2 : tie.Need-returns-2 Inv-loop μ-loop
 unfolding outcomeOf
 returns-2 c =
@@ -87,15 +60,6 @@ returns-2 c =
     c .stop2 .ensures
     ∙ ap outcomeOf (sym (run-breaks (start .args .script .now) (start .pre .1) (start .args .size) (now .loop .k) (view (now .loop .state .list)) (now .loop .inv .1) _
     (inside (called .before)) (decodes read) _ fails))
-
-enum-told-2 : tie.Need-enum-told-2 Inv-loop μ-loop
-enum-told-2 c = search needs
-
-add-k : tie.Need-add-k Inv-loop μ-loop
-add-k c = search needs
-
-loop-less : tie.Need-loop-less Inv-loop μ-loop
-loop-less c = search needs
 
 loop-again : tie.Need-loop-again Inv-loop μ-loop
 loop-again c =
@@ -119,6 +83,42 @@ returns-3 c =
     let start = now .before .before .before in
     ap outcomeOf (sym (run-ends (start .args .script .now) (start .pre .1) (start .args .size) (now .loop .k) (view (now .loop .state .list)) (now .loop .inv .1)
     (omega (arith, c .before .loop-test .left, now .before .commands .ensures))))
+
+commands-requires : tie.Need-commands-requires Inv-loop μ-loop
+commands-requires c κs = search needs
+
+command-at-requires : tie.Need-command-at-requires Inv-loop μ-loop
+command-at-requires c κs = search needs
+
+enum-known-d : tie.Need-enum-known-d Inv-loop μ-loop
+enum-known-d c = search needs
+
+enum-told : tie.Need-enum-told Inv-loop μ-loop
+enum-told c = search needs
+
+stop-requires : tie.Need-stop-requires Inv-loop μ-loop
+stop-requires c κs = search needs
+
+step-requires : tie.Need-step-requires Inv-loop μ-loop
+step-requires c κs = search needs
+
+enum-known-refusal : tie.Need-enum-known-refusal Inv-loop μ-loop
+enum-known-refusal c = search needs
+
+add-at : tie.Need-add-at Inv-loop μ-loop
+add-at c = search needs
+
+stop-requires-2 : tie.Need-stop-requires-2 Inv-loop μ-loop
+stop-requires-2 c κs = search needs
+
+enum-told-2 : tie.Need-enum-told-2 Inv-loop μ-loop
+enum-told-2 c = search needs
+
+add-k : tie.Need-add-k Inv-loop μ-loop
+add-k c = search needs
+
+loop-less : tie.Need-loop-less Inv-loop μ-loop
+loop-less c = search needs
 
 pub run-spec : {M : Type 1} → statement M
 run-spec =

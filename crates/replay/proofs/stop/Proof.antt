@@ -4,12 +4,12 @@ use borrow.Author.Needs.{needs}
 use Rattle.replay.proofs.stop.Statement.{statement}
 use Rattle.replay.proofs.stop.Tie as tie
 
-empty-requires : tie.Need-empty-requires
-empty-requires c κs = search needs
-
 returns : tie.Need-returns
 unfolding shownBy stopped
 returns c = rw (c .empty .ensures)
+
+empty-requires : tie.Need-empty-requires
+empty-requires c κs = search needs
 
 pub stop-spec : {M : Type 1} → statement M
 stop-spec = tie.close (tie.spec empty-requires returns)

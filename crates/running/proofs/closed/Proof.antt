@@ -14,6 +14,13 @@ Inv-loop at len a₀ k₀ a k = (k < len) × (length a ≡ 1024) × (gap k len a
 abbrev μ-loop : tie.MeasureT-loop
 μ-loop at len a₀ k₀ a k = len - k
 
+loop-again : tie.Need-loop-again Inv-loop μ-loop
+loop-again c = (search needs, search needs, gap-up (c .before .loop .k) (c .before .before .args .len) (c .before .loop .a) (search needs) (search needs) ∙ c .before .loop .inv .2)
+
+returns : tie.Need-returns Inv-loop μ-loop
+unfolding gap
+returns c = gap-closed (c .before .loop .k) (c .before .before .args .len) (c .before .loop .a) (search needs) (search needs) ∙ c .before .loop .inv .2
+
 loop-holds : tie.Need-loop-holds Inv-loop μ-loop
 loop-holds c = search needs
 
@@ -40,13 +47,6 @@ add-k c = search needs
 
 loop-less : tie.Need-loop-less Inv-loop μ-loop
 loop-less c = search needs
-
-loop-again : tie.Need-loop-again Inv-loop μ-loop
-loop-again c = (search needs, search needs, gap-up (c .before .loop .k) (c .before .before .args .len) (c .before .loop .a) (search needs) (search needs) ∙ c .before .loop .inv .2)
-
-returns : tie.Need-returns Inv-loop μ-loop
-unfolding gap
-returns c = gap-closed (c .before .loop .k) (c .before .before .args .len) (c .before .loop .a) (search needs) (search needs) ∙ c .before .loop .inv .2
 
 pub closed-spec : {M : Type 1} → statement M
 closed-spec =

@@ -18,6 +18,23 @@ abbrev μ-loop : tie.MeasureT-loop
 loop-holds : tie.Need-loop-holds Inv-loop μ-loop
 loop-holds c = (search needs, search needs, search needs, gap-last (c .args .len) (c .args .rules))
 
+loop-again : tie.Need-loop-again Inv-loop μ-loop
+loop-again c = (search needs, search needs, search needs, gap-down (c .before .loop .k) (suc (c .before .before .args .len)) (c .before .loop .a) (search needs) (search needs) (search needs) ∙ c .before .loop .inv .3)
+
+returns : tie.Need-returns Inv-loop μ-loop
+returns c =
+    gap-opened
+    (c .before .before .args .at)
+    (c .before .loop .k)
+    (c .before .before .args .len)
+    (c .before .before .args .r)
+    (c .before .loop .a)
+    (c .before .before .args .rules)
+    (omega arith)
+    (search needs)
+    (search needs)
+    (c .before .loop .inv .3)
+
 sub-a : tie.Need-sub-a Inv-loop μ-loop
 sub-a c = search needs
 
@@ -39,28 +56,11 @@ sub-k c = search needs
 loop-less : tie.Need-loop-less Inv-loop μ-loop
 loop-less c = search needs
 
-loop-again : tie.Need-loop-again Inv-loop μ-loop
-loop-again c = (search needs, search needs, search needs, gap-down (c .before .loop .k) (suc (c .before .before .args .len)) (c .before .loop .a) (search needs) (search needs) (search needs) ∙ c .before .loop .inv .3)
-
 mul-a-3 : tie.Need-mul-a-3 Inv-loop μ-loop
 mul-a-3 c = search needs
 
 array-write-a-2 : tie.Need-array-write-a-2 Inv-loop μ-loop
 array-write-a-2 c = search needs
-
-returns : tie.Need-returns Inv-loop μ-loop
-returns c =
-    gap-opened
-    (c .before .before .args .at)
-    (c .before .loop .k)
-    (c .before .before .args .len)
-    (c .before .before .args .r)
-    (c .before .loop .a)
-    (c .before .before .args .rules)
-    (omega arith)
-    (search needs)
-    (search needs)
-    (c .before .loop .inv .3)
 
 pub opened-spec : {M : Type 1} → statement M
 opened-spec =

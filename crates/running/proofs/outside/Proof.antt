@@ -18,30 +18,12 @@ Inv-loop len size rules k₀ k = all (λ r. ltb r size) (drop k (take len rules)
 abbrev μ-loop : tie.MeasureT-loop
 μ-loop len size rules k₀ k = len - k
 
-loop-holds : tie.Need-loop-holds Inv-loop μ-loop
-loop-holds c = search needs
-
-mul-if1 : tie.Need-mul-if1 Inv-loop μ-loop
-mul-if1 c = search needs
-
-array-read-if1 : tie.Need-array-read-if1 Inv-loop μ-loop
-array-read-if1 c = search needs
-
-cast-if1 : tie.Need-cast-if1 Inv-loop μ-loop
-cast-if1 c = search needs
-
 returns : tie.Need-returns Inv-loop μ-loop
 returns c =
     let start = c .before .before .before in
     sym (ap not
     (sym (c .before .before .loop .inv)
     ∙ all-not (λ r. ltb r (start .args .size)) (c .before .before .loop .k) (start .args .len) (start .args .t1) (c .before .loop-test .taken) (search needs) (le-ltb _ _ (c .if1 .taken))))
-
-add-k : tie.Need-add-k Inv-loop μ-loop
-add-k c = search needs
-
-loop-less : tie.Need-loop-less Inv-loop μ-loop
-loop-less c = search needs
 
 loop-again : tie.Need-loop-again Inv-loop μ-loop
 loop-again c =
@@ -55,6 +37,24 @@ returns-2 c =
     sym (ap not
     (sym (c .before .loop .inv)
     ∙ all-none (λ r. ltb r (start .args .size)) (c .before .loop .k) (start .args .len) (start .args .t1) (c .loop-test .left)))
+
+loop-holds : tie.Need-loop-holds Inv-loop μ-loop
+loop-holds c = search needs
+
+mul-if1 : tie.Need-mul-if1 Inv-loop μ-loop
+mul-if1 c = search needs
+
+array-read-if1 : tie.Need-array-read-if1 Inv-loop μ-loop
+array-read-if1 c = search needs
+
+cast-if1 : tie.Need-cast-if1 Inv-loop μ-loop
+cast-if1 c = search needs
+
+add-k : tie.Need-add-k Inv-loop μ-loop
+add-k c = search needs
+
+loop-less : tie.Need-loop-less Inv-loop μ-loop
+loop-less c = search needs
 
 pub outside-spec : {M : Type 1} → statement M
 outside-spec =

@@ -22,18 +22,6 @@ abbrev μ-loop : tie.MeasureT-loop
 loop-holds : tie.Need-loop-holds Inv-loop μ-loop
 loop-holds c = (search needs, search needs, seen-none (c .args .len) (take (c .args .len) (c .args .t1)) (omega (arith, length-take (c .args .len) (c .args .t1))))
 
-sub-k : tie.Need-sub-k Inv-loop μ-loop
-sub-k c = search needs
-
-mul-at : tie.Need-mul-at Inv-loop μ-loop
-mul-at c = search needs
-
-array-read-at : tie.Need-array-read-at Inv-loop μ-loop
-array-read-at c = search needs
-
-cast-at : tie.Need-cast-at Inv-loop μ-loop
-cast-at c = search needs
-
 -- the rule is below 1,024, as all are
 listed : (c : tie.In-loop Inv-loop μ-loop) → getD (c .before .before .args .t1) (c .before .loop .k - 1) 0 < 1024
 listed c =
@@ -58,9 +46,6 @@ returns c =
 array-write-seen : tie.Need-array-write-seen Inv-loop μ-loop
 array-write-seen c = listed (c .before)
 
-loop-less : tie.Need-loop-less Inv-loop μ-loop
-loop-less c = search needs
-
 loop-again : tie.Need-loop-again Inv-loop μ-loop
 loop-again c =
     let now = c .before .before in
@@ -71,6 +56,21 @@ returns-2 : tie.Need-returns-2 Inv-loop μ-loop
 returns-2 c =
     let all : c .before .loop .k ≡ 0 = omega arith in
     sym (ap not (rw all at (c .before .loop .inv .2 .apart)))
+
+sub-k : tie.Need-sub-k Inv-loop μ-loop
+sub-k c = search needs
+
+mul-at : tie.Need-mul-at Inv-loop μ-loop
+mul-at c = search needs
+
+array-read-at : tie.Need-array-read-at Inv-loop μ-loop
+array-read-at c = search needs
+
+cast-at : tie.Need-cast-at Inv-loop μ-loop
+cast-at c = search needs
+
+loop-less : tie.Need-loop-less Inv-loop μ-loop
+loop-less c = search needs
 
 pub twice-spec : {M : Type 1} → statement M
 twice-spec =

@@ -1,12 +1,14 @@
--- `put_contents` meets its contract: the parts stand where the reader found them, and their texts one behind the other are the text of the contents.
+-- `put_contents` meets its contract: the parts stand where the reader found them, and their texts one behind the other are the text of the file.
 -- Assumes nothing.
 use native.Mathlib.Omega.{arith}
-use mathlib.Core.Path.{_≡_, sym, _∙_}
-use Rattle.deployment.specs.File.{accepted, readFile}
+use Rattle.deployment.specs.File.{readFile}
+use Rattle.deployment.specs.Values.{numbersOf}
 use Rattle.deployment.proofs.Bytes.{elements-are-bytes}
+use Rattle.reader.specs.Answers.{valueAt}
 use Rattle.reader.proofs.FileAnswers.{Holds, file-holds}
-use Rattle.listing.proofs.Pieces.{puts-more}
-use Rattle.showing.proofs.ShownTexts.{rules-fit, parts-shown, script-reads}
+use Rattle.lines.proofs.Pieces.{puts-more, puts-whole}
+use Rattle.showing.specs.Text.{policiesText}
+use Rattle.showing.proofs.ShownTexts.{parts-printed, printed-short, script-reads}
 use borrow.Author.Needs.{needs}
 use Rattle.showing.proofs.put_contents.Statement.{statement}
 use Rattle.showing.proofs.put_contents.Tie as tie
@@ -25,43 +27,16 @@ abbrev known : tie.After-put-catalogue → tie.After-shared-slice-known
 known c = c .before .before .before
 
 abbrev at-catalogue : tie.After-put-policies → tie.After-put-catalogue
-at-catalogue c = c .before .before .before .before .before .before
+at-catalogue c = c .before .before .before .before
 
 abbrev at-policies : tie.After-put-keep → tie.After-put-policies
-at-policies c = c .before .before .before .before .before
+at-policies c = c .before .before .before .before
 
 abbrev at-keep : tie.After-put-script → tie.After-put-keep
-at-keep c = c .before .before .before .before .before
-
-put-catalogue-requires : tie.Need-put-catalogue-requires
-put-catalogue-requires c κs = rules-fit (held (c .before .before) .stands)
-
-value-requires : tie.Need-value-requires
-value-requires c κs = search needs
-
-value-requires-2 : tie.Need-value-requires-2
-value-requires-2 c κs = search needs
-
-put-policies-requires : tie.Need-put-policies-requires
-put-policies-requires c κs = search needs
-
-value-requires-3 : tie.Need-value-requires-3
-value-requires-3 c κs = search needs
-
-put-keep-requires : tie.Need-put-keep-requires
-put-keep-requires c κs = search needs
-
-value-requires-4 : tie.Need-value-requires-4
-value-requires-4 c κs = search needs
+at-keep c = c .before .before .before .before
 
 put-script-requires : tie.Need-put-script-requires
-put-script-requires c κs =
-    let keep = c .before .before .before .before in
-    let first = known (at-catalogue (at-policies keep)) in
-    λ has. rw (c .value4 .ensures) (script-reads (held first .stands) has)
-
-same-length : tie.Need-same-length
-same-length c = search needs
+put-script-requires c κs = let keep = c .before .before .before in script-reads (held (known (at-catalogue (at-policies keep))) .stands)
 
 returns : tie.Need-returns
 returns c =
@@ -69,31 +44,36 @@ returns c =
     let keep = at-keep script in
     let policies = at-policies keep in
     let catalogue = at-catalogue policies in
-    let holds = held (known catalogue) in
-    λ d is.
-    let same : holds .contents ≡ d = let e : accepted (holds .contents) ≡ accepted d = sym (holds .is) ∙ is in cc in
-    rw (
-      ← same,
-      ← parts-shown (holds .stands),
-      ← policies .before .before .value .ensures,
-      ← policies .before .value2 .ensures,
-      ← keep .before .value3 .ensures,
-      ← script .before .value4 .ensures,
-    )
+    let start = known catalogue in
+    let holds = held start in
+    let file = start .before .args .file .now in
+    let layout = start .before .args .layout in
+    let both = policiesText (numbersOf (valueAt (layout .initial) file)) (numbersOf (valueAt (layout .target) file)) in
+    puts-whole
+    (rw (← parts-printed (holds .stands) (holds .is))
     (puts-more (catalogue .put-catalogue .ensures)
-    (puts-more (policies .put-policies .ensures) (puts-more (keep .put-keep .ensures) (script .put-script .ensures))))
+    (puts-more {piece = both} (policies .put-policies .ensures) (puts-more (keep .put-keep .ensures) (script .put-script .ensures)))))
+    (printed-short (holds .stands) (holds .is)) (omega arith)
+
+put-catalogue-requires : tie.Need-put-catalogue-requires
+put-catalogue-requires c κs = search needs
+
+put-policies-requires : tie.Need-put-policies-requires
+put-policies-requires c κs = search needs
+
+put-keep-requires : tie.Need-put-keep-requires
+put-keep-requires c κs = search needs
+
+same-length : tie.Need-same-length
+same-length c = search needs
 
 pub put-contents-spec : {M : Type 1} → statement M
 put-contents-spec =
     tie.close
     (tie.spec
     put-catalogue-requires
-    value-requires
-    value-requires-2
     put-policies-requires
-    value-requires-3
     put-keep-requires
-    value-requires-4
     put-script-requires
     same-length
     returns)

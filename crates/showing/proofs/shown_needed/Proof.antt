@@ -8,14 +8,14 @@ use Rattle.showing.proofs.shown_needed.Tie as tie
 returns : tie.Need-returns
 returns c = inr (omega arith, omega arith)
 
+returns-2 : tie.Need-returns-2
+returns-2 c = inl (omega (arith, c .before .put-shown .ensures .put .end))
+
 slice-aggregate-put-shown : tie.Need-slice-aggregate-put-shown
 slice-aggregate-put-shown c = search needs
 
 put-shown-requires : tie.Need-put-shown-requires
 put-shown-requires c κs = search needs
-
-returns-2 : tie.Need-returns-2
-returns-2 c = inl (omega (arith, c .before .put-shown .ensures .put .end))
 
 pub shown-needed-spec : {M : Type 1} → statement M
 shown-needed-spec =

@@ -12,6 +12,12 @@ returns c =
     let a = c .before .args in
     sym (take-all (a .n) (a .place .now) (omega arith))
 
+returns-2 : tie.Need-returns-2
+returns-2 c =
+    let a = c .before .before .args in
+    let all : a .n - 0 ≡ a .n = omega arith in
+    rw all
+
 sub-result : tie.Need-sub-result
 sub-result c = search needs
 
@@ -20,12 +26,6 @@ part-result-start c = search needs
 
 part-result-end : tie.Need-part-result-end
 part-result-end c = search needs
-
-returns-2 : tie.Need-returns-2
-returns-2 c =
-    let a = c .before .before .args in
-    let all : a .n - 0 ≡ a .n = omega arith in
-    rw all
 
 pub first-spec : {M : Type 1} → statement M
 first-spec = tie.close (tie.spec returns sub-result part-result-start part-result-end returns-2)

@@ -32,9 +32,6 @@ returns c =
     let a = c .before .before .args in
     below (a .answer) (length (a .part .now)) (rw (toZ-ofZ (c .before .before .fits .answer)) at (c .if1 .taken))
 
-count-requires : tie.Need-count-requires
-count-requires c κs = search needs
-
 returns-2 : tie.Need-returns-2
 returns-2 c =
     let not-below = c .before .before in
@@ -52,6 +49,9 @@ returns-3 c =
     let n = c .before .count .result in
     let k = came (start .args .answer) (length (start .args .part .now)) n (rw whole at (not-below .if1 .left)) (rw whole at (c .before .count .ensures .1)) in
     some n (c .if2 .left) ∙ k
+
+count-requires : tie.Need-count-requires
+count-requires c κs = search needs
 
 pub piece-of-spec : {M : Type 1} → statement M
 piece-of-spec = tie.close (tie.spec returns count-requires returns-2 returns-3)

@@ -25,6 +25,15 @@ fitting (negsuc k) most done size h = tt
 behind : (p : Piece) (done : ℕ) (place : List ℕ) (z : ℤ) → done ≤ length place → p ≡ pieceOf z (length (take (length place - done) (drop done place))) → Fitting p done (length place)
 behind p done place z h e = rw e (fitting z (length (take (length place - done) (drop done place))) done (length place) (simp (length-take, length-drop) (omega arith)))
 
+returns-2 : tie.Need-returns-2
+returns-2 c =
+    let after-read = c .before .before .before .before .before in
+    let start = after-read .before .before .before .before in
+    let read = after-read .read in
+    let a = start .args in
+    let place = putMid (a .done) (length (a .place .now) - a .done) (a .place .now) (read .last .1 .0) in
+    behind (c .piece-of .result) (a .done) place (toZ w64 (ofZ w64 (read .result))) (omega arith) (c .piece-of .ensures)
+
 returns : tie.Need-returns
 returns c = search needs
 
@@ -54,15 +63,6 @@ piece-of-requires c κs = search needs
 
 same-length : tie.Need-same-length
 same-length c = search needs
-
-returns-2 : tie.Need-returns-2
-returns-2 c =
-    let after-read = c .before .before .before .before .before in
-    let start = after-read .before .before .before .before in
-    let read = after-read .read in
-    let a = start .args in
-    let place = putMid (a .done) (length (a .place .now) - a .done) (a .place .now) (read .last .1 .0) in
-    behind (c .piece-of .result) (a .done) place (toZ w64 (ofZ w64 (read .result))) (omega arith) (c .piece-of .ensures)
 
 pub read-piece-spec : {M : Type 1} → statement M
 read-piece-spec =

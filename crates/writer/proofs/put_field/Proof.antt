@@ -9,35 +9,11 @@ use borrow.Author.Needs.{needs}
 use Rattle.writer.proofs.put_field.Statement.{statement}
 use Rattle.writer.proofs.put_field.Tie as tie
 
-slice-write-place : tie.Need-slice-write-place
-slice-write-place c = search needs
-
-cast-place : tie.Need-cast-place
-cast-place c = search needs
-
-add-place : tie.Need-add-place
-add-place c = search needs
-
 slice-write-place-2 : tie.Need-slice-write-place-2
 slice-write-place-2 c = simp length-set (omega arith)
 
-cast-place-2 : tie.Need-cast-place-2
-cast-place-2 c = search needs
-
-add-place-2 : tie.Need-add-place-2
-add-place-2 c = search needs
-
 slice-write-place-3 : tie.Need-slice-write-place-3
 slice-write-place-3 c = simp length-set (omega arith)
-
-add-start : tie.Need-add-start
-add-start c = search needs
-
-store-requires : tie.Need-store-requires
-store-requires c κs = search needs
-
-add-result : tie.Need-add-result
-add-result c = search needs
 
 same-length : tie.Need-same-length
 same-length c = c .before .before .store .kept .0 ∙ simp length-set
@@ -51,6 +27,30 @@ returns c =
           ∙ field-put (args .place .now) (args .at) (args .tag) (args .value .now) (omega (arith, start .fits .tag)) (omega arith);
       end = omega (arith, length-field (args .tag) (args .value .now));
     }
+
+slice-write-place : tie.Need-slice-write-place
+slice-write-place c = search needs
+
+cast-place : tie.Need-cast-place
+cast-place c = search needs
+
+add-place : tie.Need-add-place
+add-place c = search needs
+
+cast-place-2 : tie.Need-cast-place-2
+cast-place-2 c = search needs
+
+add-place-2 : tie.Need-add-place-2
+add-place-2 c = search needs
+
+add-start : tie.Need-add-start
+add-start c = search needs
+
+store-requires : tie.Need-store-requires
+store-requires c κs = search needs
+
+add-result : tie.Need-add-result
+add-result c = search needs
 
 pub put-field-spec : {M : Type 1} → statement M
 put-field-spec =

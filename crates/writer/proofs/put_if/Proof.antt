@@ -13,9 +13,6 @@ put-field-requires c κs =
     let room = rw (then .if1 .taken) at (then .before .before .before .pre) in
     (room .0, omega (arith, room .1))
 
-same-length : tie.Need-same-length
-same-length c = search needs
-
 returns : tie.Need-returns
 unfolding fieldIf
 returns c =
@@ -25,6 +22,9 @@ returns c =
 returns-2 : tie.Need-returns-2
 unfolding fieldIf
 returns-2 c = rw (c .if1 .left) (record { place = refl; end = omega arith })
+
+same-length : tie.Need-same-length
+same-length c = search needs
 
 pub put-if-spec : {M : Type 1} → statement M
 put-if-spec = tie.close (tie.spec put-field-requires same-length returns returns-2)

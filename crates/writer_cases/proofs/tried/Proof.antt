@@ -5,6 +5,9 @@ use lib.ListN.{length-take}
 use Rattle.writer_cases.proofs.tried.Statement.{statement}
 use Rattle.writer_cases.proofs.tried.Tie as tie
 
+slice-aggregate-write : tie.Need-slice-aggregate-write
+slice-aggregate-write c = simp length-take (omega arith)
+
 shared-slice-read-two : tie.Need-shared-slice-read-two
 shared-slice-read-two c = search needs
 
@@ -52,9 +55,6 @@ bytes-at-requires-5 c κs = search needs
 
 slice-relend-prefix-write : tie.Need-slice-relend-prefix-write
 slice-relend-prefix-write c = search needs
-
-slice-aggregate-write : tie.Need-slice-aggregate-write
-slice-aggregate-write c = simp length-take (omega arith)
 
 write-requires : tie.Need-write-requires
 write-requires c κs = search needs

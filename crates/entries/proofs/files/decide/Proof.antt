@@ -1,14 +1,16 @@
 -- `files::decide` meets its contract: the parts at the places of an accepted file are read as its catalogue and its policy, and the decision
 -- over them is that of the contents. Assumes nothing.
 use native.Mathlib.Omega.{arith}
-use mathlib.Core.Path.{sym, _∙_}
 use mathlib.Core.List.{List}
 use Prim.Native.Nat.{ℕ}
 use Rattle.deployment.specs.File.{readFile}
 use Rattle.deployment.proofs.Bytes.{elements-are-bytes}
 use Rattle.reader.specs.declared.Layout.{Layout}
-use Rattle.reader.proofs.FileAnswers.{Holds, file-holds}
-use Rattle.entries.proofs.Decisions.{turned-file, few-rules, decided-file}
+use Rattle.reader.proofs.FileAnswers.{Holds}
+use Rattle.deployment.proofs.Lent.{turned-away}
+use Rattle.entries.specs.Answers.{decidedReading}
+use Rattle.entries.proofs.Given.{file-held, file-turned}
+use Rattle.entries.proofs.Decisions.{few-rules, decided-file}
 use borrow.Author.Needs.{needs}
 use Rattle.entries.proofs.files.decide.Statement.{statement}
 use Rattle.entries.proofs.files.decide.Tie as tie
@@ -23,8 +25,26 @@ file c = c .before .before .before .before .before .args .file .now
 stands : (c : tie.After-known-told2) → Holds (readFile (file c)) (file c) (layout c)
 stands c =
     let read = c .before .before .before in
-    file-holds (file c) (layout c) (elements-are-bytes (file c) (λ i. omega (arith, read .before .shared-slice-known .given i)))
-    (sym (c .before .found2 .given .1) ∙ read .read .ensures)
+    file-held (file c) (elements-are-bytes (file c) (λ i. omega (arith, read .before .shared-slice-known .given i))) (read .read .ensures)
+    (c .before .found2 .given .1)
+
+rules-of-requires : tie.Need-rules-of-requires
+rules-of-requires c κs = few-rules (stands (c .before))
+
+returns : tie.Need-returns
+unfolding decidedReading
+returns c =
+    let read = c .before .before .before in
+    turned-away _ _ _ (file-turned _ (read .read .ensures) (c .before .found .given .1))
+
+returns-2 : tie.Need-returns-2
+returns-2 c =
+    let rules = c .before .before .before in
+    let asked = rules .before in
+    let told = asked .before in
+    let a = told .before .before .before .before .before .args in
+    decided-file (stands told) (a .of-target) (asked .asked .ensures) (rules .rules-of .ensures) (c .before .before .value .ensures)
+    (c .before .value2 .ensures) (a .flow) (c .decided .ensures)
 
 read-requires : tie.Need-read-requires
 read-requires c κs = search needs
@@ -38,9 +58,6 @@ enum-known-found-2 c = search needs
 asked-requires : tie.Need-asked-requires
 asked-requires c κs = search needs
 
-rules-of-requires : tie.Need-rules-of-requires
-rules-of-requires c κs = few-rules (stands (c .before))
-
 value-requires : tie.Need-value-requires
 value-requires c κs = search needs
 
@@ -52,21 +69,6 @@ value-requires-2 c κs = search needs
 
 decided-requires : tie.Need-decided-requires
 decided-requires c κs = search needs
-
-returns : tie.Need-returns
-returns c =
-    let read = c .before .before .before in
-    let a = read .before .before .args in
-    turned-file (a .of-target) (a .flow) (a .file .now) _ (sym (c .before .found .given .1) ∙ read .read .ensures)
-
-returns-2 : tie.Need-returns-2
-returns-2 c =
-    let rules = c .before .before .before in
-    let asked = rules .before in
-    let told = asked .before in
-    let a = told .before .before .before .before .before .args in
-    decided-file (stands told) (a .of-target) (asked .asked .ensures) (rules .rules-of .ensures) (c .before .before .value .ensures)
-    (c .before .value2 .ensures) (a .flow) (c .decided .result) (c .decided .ensures)
 
 pub decide-spec : {M : Type 1} → statement M
 decide-spec =

@@ -2,13 +2,15 @@
 -- policy. Assumes nothing.
 use Prim.Native.Nat.{ℕ}
 use native.Mathlib.Omega.{arith}
-use mathlib.Core.Path.{sym, _∙_}
 use mathlib.Core.List.{List}
 use Rattle.deployment.specs.File.{readFile}
 use Rattle.deployment.proofs.Bytes.{elements-are-bytes}
 use Rattle.reader.specs.declared.Layout.{Layout}
-use Rattle.reader.proofs.FileAnswers.{Holds, file-holds}
-use Rattle.entries.proofs.Decisions.{flows-of-turned-file, few-rules, flows-of-file}
+use Rattle.reader.proofs.FileAnswers.{Holds}
+use Rattle.deployment.proofs.Lent.{turned-away}
+use Rattle.entries.specs.Answers.{flowsReading}
+use Rattle.entries.proofs.Given.{file-held, file-turned}
+use Rattle.entries.proofs.Decisions.{few-rules, flows-of-file}
 use borrow.Author.Needs.{needs}
 use Rattle.entries.proofs.files.decide_flows.Statement.{statement}
 use Rattle.entries.proofs.files.decide_flows.Tie as tie
@@ -26,8 +28,28 @@ file c = start (c .before .before .before) .args .file .now
 stands : (c : tie.After-known-told2) → Holds (readFile (file c)) (file c) (layout c)
 stands c =
     let read = c .before .before .before in
-    file-holds (file c) (layout c) (elements-are-bytes (file c) (λ i. omega (arith, read .before .before .before .shared-slice-known .given i)))
-    (sym (c .before .found2 .given .1) ∙ read .read .ensures)
+    file-held (file c) (elements-are-bytes (file c) (λ i. omega (arith, read .before .before .before .shared-slice-known .given i))) (read .read .ensures)
+    (c .before .found2 .given .1)
+
+rules-of-requires : tie.Need-rules-of-requires
+rules-of-requires c κs = few-rules (stands (c .before))
+
+returns : tie.Need-returns
+unfolding flowsReading
+returns c =
+    let read = c .before .before .before in
+    turned-away _ _ _ (file-turned _ (read .read .ensures) (c .before .found .given .1))
+
+returns-2 : tie.Need-returns-2
+returns-2 c =
+    let put = c .before .before in
+    let policy = put .before .before in
+    let rules = policy .before .before in
+    let asked = rules .before in
+    let told = asked .before in
+    let a = start (told .before .before .before) .args in
+    flows-of-file (stands told) (a .of-target) (asked .asked .ensures) (rules .rules-of .ensures) (policy .before .value .ensures)
+    (policy .value2 .ensures) (a .flows .now) (a .place .now) (put .decide-into .ensures)
 
 read-requires : tie.Need-read-requires
 read-requires c κs = search needs
@@ -41,9 +63,6 @@ enum-known-found-2 c = search needs
 asked-requires : tie.Need-asked-requires
 asked-requires c κs = search needs
 
-rules-of-requires : tie.Need-rules-of-requires
-rules-of-requires c κs = few-rules (stands (c .before))
-
 value-requires : tie.Need-value-requires
 value-requires c κs = search needs
 
@@ -56,26 +75,8 @@ value-requires-2 c κs = search needs
 decide-into-requires : tie.Need-decide-into-requires
 decide-into-requires c κs = search needs
 
-returns : tie.Need-returns
-returns c =
-    let read = c .before .before .before in
-    let a = start read .args in
-    flows-of-turned-file (a .of-target) (a .flows .now) (a .place .now) (a .file .now) _
-    (sym (c .before .found .given .1) ∙ read .read .ensures)
-
 same-length : tie.Need-same-length
 same-length c = search needs
-
-returns-2 : tie.Need-returns-2
-returns-2 c =
-    let put = c .before .before in
-    let policy = put .before .before in
-    let rules = policy .before .before in
-    let asked = rules .before in
-    let told = asked .before in
-    let a = start (told .before .before .before) .args in
-    flows-of-file (stands told) (a .of-target) (asked .asked .ensures) (rules .rules-of .ensures) (policy .before .value .ensures)
-    (policy .value2 .ensures) (a .flows .now) (a .place .now) _ (put .decide-into .ensures)
 
 pub decide-flows-spec : {M : Type 1} → statement M
 decide-flows-spec =

@@ -5,18 +5,6 @@ use borrow.Author.Needs.{needs}
 use Rattle.entries.proofs.lists.decide.Statement.{statement}
 use Rattle.entries.proofs.lists.decide.Tie as tie
 
-tested-requires : tie.Need-tested-requires
-tested-requires c κs = search needs
-
-enum-known-found : tie.Need-enum-known-found
-enum-known-found c = search needs
-
-enum-told : tie.Need-enum-told
-enum-told c = search needs
-
-decided-requires : tie.Need-decided-requires
-decided-requires c κs = search needs
-
 returns : tie.Need-returns
 returns c =
     let at-tests = c .before .before .before in
@@ -28,7 +16,19 @@ returns-2 c =
     let at-tests = c .before .before .before in
     let a = at-tests .before .before .before .args in
     decided-values (a .rules .now) (a .policy .now) (sym (c .before .enum-told .given .1) ∙ at-tests .tested .ensures) (a .flow)
-    (c .decided .result) (c .decided .ensures)
+    (c .decided .ensures)
+
+tested-requires : tie.Need-tested-requires
+tested-requires c κs = search needs
+
+enum-known-found : tie.Need-enum-known-found
+enum-known-found c = search needs
+
+enum-told : tie.Need-enum-told
+enum-told c = search needs
+
+decided-requires : tie.Need-decided-requires
+decided-requires c κs = search needs
 
 pub decide-spec : {M : Type 1} → statement M
 decide-spec =

@@ -5,6 +5,22 @@ use borrow.Author.Needs.{needs}
 use Rattle.entries.proofs.lists.decide_flows.Statement.{statement}
 use Rattle.entries.proofs.lists.decide_flows.Tie as tie
 
+returns : tie.Need-returns
+returns c =
+    let at-tests = c .before .before .before in
+    let a = at-tests .before .before .before .before .before .args in
+    flows-of-turned-values (a .rules .now) (a .policy .now) _ (sym (c .before .found .given .1) ∙ at-tests .tested .ensures) (a .flows .now)
+    (a .place .now)
+
+returns-2 : tie.Need-returns-2
+returns-2 c =
+    let put = c .before .before in
+    let told = put .before .before in
+    let at-tests = told .before .before in
+    let a = at-tests .before .before .before .before .before .args in
+    flows-of-values (a .rules .now) (a .policy .now) (sym (told .enum-told .given .1) ∙ at-tests .tested .ensures) (a .flows .now)
+    (a .place .now) (put .decide-into .ensures)
+
 tested-requires : tie.Need-tested-requires
 tested-requires c κs = search needs
 
@@ -17,24 +33,8 @@ enum-told c = search needs
 decide-into-requires : tie.Need-decide-into-requires
 decide-into-requires c κs = search needs
 
-returns : tie.Need-returns
-returns c =
-    let at-tests = c .before .before .before in
-    let a = at-tests .before .before .before .before .before .args in
-    flows-of-turned-values (a .rules .now) (a .policy .now) _ (sym (c .before .found .given .1) ∙ at-tests .tested .ensures) (a .flows .now)
-    (a .place .now)
-
 same-length : tie.Need-same-length
 same-length c = search needs
-
-returns-2 : tie.Need-returns-2
-returns-2 c =
-    let put = c .before .before in
-    let told = put .before .before in
-    let at-tests = told .before .before in
-    let a = at-tests .before .before .before .before .before .args in
-    flows-of-values (a .rules .now) (a .policy .now) (sym (told .enum-told .given .1) ∙ at-tests .tested .ensures) (a .flows .now)
-    (a .place .now) _ (put .decide-into .ensures)
 
 pub decide-flows-spec : {M : Type 1} → statement M
 decide-flows-spec =

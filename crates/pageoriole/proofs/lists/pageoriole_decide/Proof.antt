@@ -1,28 +1,14 @@
 -- `lists::pageoriole_decide` meets its contract: what the entry answers, told. Assumes nothing.
-use Rattle.pageoriole.specs.Answers.{decidedTold}
-use Rattle.pageoriole.proofs.Telling.{tells-of}
 use borrow.Author.Needs.{needs}
+use Rattle.told.specs.Answers.{decidedTold}
+use Rattle.told.proofs.Telling.{tells-of}
 use Rattle.pageoriole.proofs.lists.pageoriole_decide.Statement.{statement}
 use Rattle.pageoriole.proofs.lists.pageoriole_decide.Tie as tie
-
-decide-requires : tie.Need-decide-requires
-decide-requires c κs = search needs
-
-decided-told-requires : tie.Need-decided-told-requires
-decided-told-requires c κs = search needs
-
-tell-requires : tie.Need-tell-requires
-tell-requires c κs = search needs
-
-same-length : tie.Need-same-length
-same-length c = search needs
 
 returns : tie.Need-returns
 returns c =
     let at-tell = c .before .before in
-    let at-told = at-tell .before .before in
-    tells-of decidedTold (at-told .before .decide .ensures) (at-told .decided-told .ensures) (at-tell .tell .ensures)
+    tells-of decidedTold (at-tell .before .before .decide .ensures) (at-tell .tell-decided .ensures)
 
 pub pageoriole-decide-spec : {M : Type 1} → statement M
-pageoriole-decide-spec =
-    tie.close (tie.spec decide-requires decided-told-requires tell-requires same-length returns)
+pageoriole-decide-spec = tie.close (tie.spec (λ c κs. tt) (λ c κs. tt) (λ c. search needs) returns)

@@ -8,7 +8,7 @@ use Rattle.deployment.specs.File.{Fields, fieldRead}
 use Rattle.deployment.proofs.Bytes.{elements-are-bytes}
 use Rattle.reader.specs.Steps.{Begun, headShown}
 use Rattle.reader.specs.declared.file.Head.the-variants as head
-use Rattle.reader.proofs.Heads.{few-rules}
+use Rattle.reader.proofs.Heads.{same-tag, same-count, few-rules}
 use Rattle.reader.proofs.Reading.{turned-at-head, turned-at-value, field-inside, cut-field, apart-field, passed-on}
 use Rattle.reader.proofs.file.next_field.Statement.{statement}
 use Rattle.reader.proofs.file.next_field.Tie as tie
@@ -21,7 +21,10 @@ found : (c : tie.After-value) (f : Fields) → Begun (start c .args .file .now) 
     → head.Field (c .before .before .before .found2 .given .0 .0) (c .before .before .before .found2 .given .0 .1 .0)
     ≡ headShown (fieldRead f (drop (start c .args .progress .at) (start c .args .file .now)))
 found c f begun =
-    sym (c .before .before .before .found2 .given .1) ∙ c .before .before .before .before .before .field-head .ensures f begun
+    let head = c .before .before .before in
+    let a = start c .args in
+    sym (head .found2 .given .1)
+    ∙ head .before .before .field-head .ensures f (same-tag (a .file .now) (a .progress) f begun) (same-count (a .file .now) (a .progress) f begun)
 
 field : (c : tie.After-value) (f : Fields) → Begun (start c .args .file .now) (start c .args .progress) f
     → fieldRead f (drop (start c .args .progress .at) (start c .args .file .now))
@@ -30,33 +33,12 @@ field c f begun =
     cut-field (start c .args .file .now) (start c .args .progress) f begun (start c .pre .0) _ _ _ (found c f begun)
     (c .value .ensures)
 
-field-head-requires : tie.Need-field-head-requires
-field-head-requires c κs = search needs
-
-enum-known-found : tie.Need-enum-known-found
-enum-known-found c = search needs
-
-enum-known-found-2 : tie.Need-enum-known-found-2
-enum-known-found-2 c = search needs
-
-add-start : tie.Need-add-start
-add-start c = search needs
-
-value-requires : tie.Need-value-requires
-value-requires c κs = search needs
-
 checked-requires : tie.Need-checked-requires
 checked-requires c κs =
     let s = start c in
     let begun = s .pre .1 in
     apart-field (s .args .file .now) (s .args .progress) (begun .0) (begun .1) (s .pre .0) _ _ _ (found c (begun .0) (begun .1))
     (c .value .ensures) (s .args .differing) (s .pre .2)
-
-enum-known-c : tie.Need-enum-known-c
-enum-known-c c = search needs
-
-enum-told : tie.Need-enum-told
-enum-told c = search needs
 
 placed-requires : tie.Need-placed-requires
 placed-requires c κs =
@@ -74,7 +56,12 @@ add-t16 c =
 
 returns : tie.Need-returns
 returns c =
-    λ f begun. turned-at-head f _ _ (sym (c .before .found .given .1) ∙ c .before .before .before .field-head .ensures f begun)
+    let head = c .before .before .before in
+    let a = head .before .before .args in
+    λ f begun.
+    turned-at-head f _ _
+    (sym (c .before .found .given .1)
+    ∙ head .field-head .ensures f (same-tag (a .file .now) (a .progress) f begun) (same-count (a .file .now) (a .progress) f begun))
 
 returns-2 : tie.Need-returns-2
 returns-2 c =
@@ -92,6 +79,27 @@ returns-3 c =
     passed-on (s .args .file .now) (s .args .progress) f begun (s .pre .0)
     (elements-are-bytes (s .args .file .now) (λ i. omega (arith, known .given i))) _ _ _ _ (found (at .before) f begun) (at .before .value .ensures)
     (sym (c .before .enum-told .given .1) ∙ at .checked .ensures f begun (field (at .before) f begun)) (c .placed .ensures)
+
+field-head-requires : tie.Need-field-head-requires
+field-head-requires c κs = search needs
+
+enum-known-found : tie.Need-enum-known-found
+enum-known-found c = search needs
+
+enum-known-found-2 : tie.Need-enum-known-found-2
+enum-known-found-2 c = search needs
+
+add-start : tie.Need-add-start
+add-start c = search needs
+
+value-requires : tie.Need-value-requires
+value-requires c κs = search needs
+
+enum-known-c : tie.Need-enum-known-c
+enum-known-c c = search needs
+
+enum-told : tie.Need-enum-told
+enum-told c = search needs
 
 pub next-field-spec : {M : Type 1} → statement M
 next-field-spec =

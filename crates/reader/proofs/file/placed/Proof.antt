@@ -9,9 +9,6 @@ use Rattle.reader.specs.Steps.{More}
 use Rattle.reader.proofs.file.placed.Statement.{statement}
 use Rattle.reader.proofs.file.placed.Tie as tie
 
-add-next : tie.Need-add-next
-add-next c = search needs
-
 returns : tie.Need-returns
 returns c =
     let a = c .before .before .args in
@@ -39,6 +36,9 @@ returns-5 c =
     let e = script-left (lastTag f) (more-stands more)
     (c .before .before .before .if1 .left) (c .before .before .if2 .left) (c .before .if3 .left) (c .if4 .left) in
     placed-script (a .layout) (a .span) (subst (λ (t : ℕ). More f t value g) e more) l w
+
+add-next : tie.Need-add-next
+add-next c = search needs
 
 pub placed-spec : {M : Type 1} → statement M
 placed-spec = tie.close (tie.spec add-next returns returns-2 returns-3 returns-4 returns-5)

@@ -6,12 +6,10 @@ use mathlib.Core.Path.{sym, _∙_}
 use mathlib.Core.List.{List}
 use lib.ListN.{length}
 use borrow.Author.Needs.{needs}
-use Rattle.deployment.specs.Bytes.{joined}
-use Rattle.deployment.specs.File.{Fields, nothing, tagOr, lastTag, ifThere}
-use Rattle.deployment.specs.Properties.{AreBytes, fieldsBytes}
+use Rattle.deployment.specs.File.{Fields, nothing}
+use Rattle.deployment.specs.Properties.{AreBytes}
 use Rattle.deployment.proofs.Bytes.{elements-are-bytes}
-use Rattle.reader.specs.Answers.{keepBytes, commandBytes, spanIf, absent, endOf, there}
-use Rattle.reader.specs.Steps.{Begun, layoutSoFar, progressOf}
+use Rattle.reader.specs.Steps.{Begun}
 use Rattle.reader.specs.declared.file.Progress.{Progress}
 use Rattle.reader.proofs.Reading.{begun-at-start, begun-again, turned-away, ended-right}
 use Rattle.reader.proofs.file.read.Statement.{statement}
@@ -23,28 +21,23 @@ Inv-loop file progress₀ differing progress = (f : Fields) × Begun file progre
 abbrev μ-loop : tie.MeasureT-loop
 μ-loop file progress₀ differing progress = length file - progress .at
 
-cast-apart : tie.Need-cast-apart Inv-loop μ-loop
-cast-apart c = search needs
-
-apart-requires : tie.Need-apart-requires Inv-loop μ-loop
-apart-requires c κs = search needs
-
 loop-holds : tie.Need-loop-holds Inv-loop μ-loop
-unfolding nothing progressOf tagOr lastTag layoutSoFar keepBytes commandBytes spanIf absent endOf there fieldsBytes ifThere joined
-loop-holds c = (nothing, begun-at-start (c .before .before .args .file .now))
+loop-holds c =
+    let begun = c .before in
+    (nothing, rw (begun .nothing-read .ensures) (begun-at-start (begun .before .before .args .file .now)))
 
 next-field-requires : tie.Need-next-field-requires Inv-loop μ-loop
 next-field-requires c κs = (c .if1 .taken, c .before .before .loop .inv, c .before .before .before .apart .ensures)
 
-enum-known-next : tie.Need-enum-known-next Inv-loop μ-loop
-enum-known-next c = search needs
+-- where a field was read: the call, the file, that it is bytes, and what was known before
+abbrev known : tie.After-next-field Inv-loop μ-loop → tie.After-shared-slice-known Inv-loop μ-loop
+known c = let head = c .before .before .before in head .before .before .before
 
--- where a field was read: the file, that it is bytes, and what was known before
 abbrev file : tie.After-next-field Inv-loop μ-loop → List ℕ
-file c = c .before .before .before .before .before .before .args .file .now
+file c = known c .before .args .file .now
 
 bytes : (c : tie.After-next-field Inv-loop μ-loop) → AreBytes (file c)
-bytes c = elements-are-bytes (file c) (λ i. omega (arith, c .before .before .before .before .before .shared-slice-known .given i))
+bytes c = elements-are-bytes (file c) (λ i. omega (arith, known c .shared-slice-known .given i))
 
 abbrev before : tie.After-next-field Inv-loop μ-loop → Progress
 before c = c .before .before .before .loop .progress
@@ -66,9 +59,6 @@ loop-less c = omega (arith, again c .2, c .before .before .before .before .if1 .
 loop-again : tie.Need-loop-again Inv-loop μ-loop
 loop-again c = let more = again c in (more .0, more .1)
 
-enum-known-next-2 : tie.Need-enum-known-next-2 Inv-loop μ-loop
-enum-known-next-2 c = search needs
-
 returns : tie.Need-returns Inv-loop μ-loop
 returns c =
     let at = c .before .before .before in
@@ -76,15 +66,31 @@ returns c =
     turned-away (file at) (before at) (inv .0) (inv .1) (at .before .if1 .taken) (bytes at) _
     (sym (c .before .next2 .given .1) ∙ at .next-field .ensures (inv .0) (inv .1))
 
-ended-requires : tie.Need-ended-requires Inv-loop μ-loop
-ended-requires c κs = search needs
-
 returns-2 : tie.Need-returns-2 Inv-loop μ-loop
 returns-2 c =
-    let loop = c .before .before .before .loop in
-    let inv = loop .inv in
+    let head = c .before .before .before in
+    let call = head .before .before .before .before in
+    let inv = head .loop .inv in
     c .ended .ensures (inv .0) (inv .1 .readable) (inv .1 .known)
-    ∙ ended-right (c .before .before .before .before .before .before .args .file .now) (loop .progress) (inv .0) (inv .1) (c .before .if1 .left)
+    ∙ ended-right (call .args .file .now) (head .loop .progress) (inv .0) (inv .1) (c .before .if1 .left)
+
+cast-apart : tie.Need-cast-apart Inv-loop μ-loop
+cast-apart c = search needs
+
+apart-requires : tie.Need-apart-requires Inv-loop μ-loop
+apart-requires c κs = search needs
+
+nothing-read-requires : tie.Need-nothing-read-requires Inv-loop μ-loop
+nothing-read-requires c κs = search needs
+
+enum-known-next : tie.Need-enum-known-next Inv-loop μ-loop
+enum-known-next c = search needs
+
+enum-known-next-2 : tie.Need-enum-known-next-2 Inv-loop μ-loop
+enum-known-next-2 c = search needs
+
+ended-requires : tie.Need-ended-requires Inv-loop μ-loop
+ended-requires c κs = search needs
 
 pub read-spec : {M : Type 1} → statement M
 read-spec =
@@ -92,6 +98,7 @@ read-spec =
     (tie.spec
     Inv-loop
     μ-loop
+    nothing-read-requires
     cast-apart
     apart-requires
     loop-holds

@@ -7,6 +7,17 @@ use borrow.Author.Needs.{needs}
 use Rattle.replay.proofs.Replaying.appended.Statement.{statement}
 use Rattle.replay.proofs.Replaying.appended.Tie as tie
 
+returns : tie.Need-returns
+unfolding stepLeft stepShown cleared changedFrom
+returns c =
+    let placed = c .before .before .before in
+    let a = placed .before .before .before .args in
+    c .settle .ensures
+    ∙ settles (a .self .places .of)
+    (c .before .before .app .ensures ∙ ap (appended (a .size) (view (a .self .list)) (a .r)) (placed .place .ensures))
+    refl
+    (c .before .count .ensures)
+
 place-requires : tie.Need-place-requires
 place-requires c κs = search needs
 
@@ -18,17 +29,6 @@ count-requires c κs = search needs
 
 settle-requires : tie.Need-settle-requires
 settle-requires c κs = search needs
-
-returns : tie.Need-returns
-unfolding stepLeft stepShown cleared changedFrom
-returns c =
-    let placed = c .before .before .before in
-    let a = placed .before .before .before .args in
-    c .settle .ensures
-    ∙ settles (a .self .places .of)
-    (c .before .before .app .ensures ∙ ap (appended (a .size) (view (a .self .list)) (a .r)) (placed .place .ensures))
-    refl
-    (c .before .count .ensures)
 
 pub appended-spec : {M : Type 1} → statement M
 appended-spec =

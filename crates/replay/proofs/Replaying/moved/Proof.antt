@@ -9,15 +9,6 @@ use borrow.Author.Needs.{needs}
 use Rattle.replay.proofs.Replaying.moved.Statement.{statement}
 use Rattle.replay.proofs.Replaying.moved.Tie as tie
 
-mov-requires : tie.Need-mov-requires
-mov-requires c κs = search needs
-
-index-of-requires : tie.Need-index-of-requires
-index-of-requires c κs = search needs
-
-settle-requires : tie.Need-settle-requires
-settle-requires c κs = search needs
-
 returns : tie.Need-returns
 unfolding stepLeft stepShown cleared changedFrom
 returns c = λ size.
@@ -29,6 +20,15 @@ returns c = λ size.
     (c .before .before .mov .ensures)
     refl
     (c .before .index-of .ensures ∙ ap (λ (i : ℕ). i - 1) smaller)
+
+mov-requires : tie.Need-mov-requires
+mov-requires c κs = search needs
+
+index-of-requires : tie.Need-index-of-requires
+index-of-requires c κs = search needs
+
+settle-requires : tie.Need-settle-requires
+settle-requires c κs = search needs
 
 pub moved-spec : {M : Type 1} → statement M
 moved-spec = tie.close (tie.spec mov-requires index-of-requires settle-requires returns)

@@ -8,6 +8,17 @@ use borrow.Author.Needs.{needs}
 use Rattle.replay.proofs.Replaying.place_deleted.Statement.{statement}
 use Rattle.replay.proofs.Replaying.place_deleted.Tie as tie
 
+returns : tie.Need-returns
+unfolding stepLeft stepShown cleared changedFrom
+returns c = λ size.
+    let found = c .before .before .before .before in
+    let self = found .before .before .before .args .self in
+    c .settle .ensures
+    ∙ settles (self .places .of)
+    (c .before .before .before .del-place .ensures)
+    (c .before .before .cleared .ensures ∙ ap (λ (r : ℕ). set (self .places .of) r 0) (found .rule-at .ensures))
+    (c .before .index-of .ensures)
+
 rule-at-requires : tie.Need-rule-at-requires
 rule-at-requires c κs = search needs
 
@@ -22,17 +33,6 @@ index-of-requires c κs = search needs
 
 settle-requires : tie.Need-settle-requires
 settle-requires c κs = search needs
-
-returns : tie.Need-returns
-unfolding stepLeft stepShown cleared changedFrom
-returns c = λ size.
-    let found = c .before .before .before .before in
-    let self = found .before .before .before .args .self in
-    c .settle .ensures
-    ∙ settles (self .places .of)
-    (c .before .before .before .del-place .ensures)
-    (c .before .before .cleared .ensures ∙ ap (λ (r : ℕ). set (self .places .of) r 0) (found .rule-at .ensures))
-    (c .before .index-of .ensures)
 
 pub place-deleted-spec : {M : Type 1} → statement M
 place-deleted-spec =

@@ -8,6 +8,17 @@ use borrow.Author.Needs.{needs}
 use Rattle.replay.proofs.Replaying.rule_deleted.Statement.{statement}
 use Rattle.replay.proofs.Replaying.rule_deleted.Tie as tie
 
+returns : tie.Need-returns
+unfolding stepLeft stepShown cleared changedFrom
+returns c =
+    let placed = c .before .before .before .before in
+    let a = placed .before .before .before .args in
+    c .settle .ensures
+    ∙ settles (a .self .places .of)
+    (c .before .before .del-rule .ensures ∙ ap (ruleDeleted (a .size) (view (a .self .list)) (a .r)) (placed .place .ensures))
+    (c .before .cleared .ensures)
+    (c .before .before .before .index-of .ensures ∙ ap (λ (place : ℕ). place - 1) (placed .place .ensures))
+
 place-requires : tie.Need-place-requires
 place-requires c κs = search needs
 
@@ -22,17 +33,6 @@ cleared-requires c κs = search needs
 
 settle-requires : tie.Need-settle-requires
 settle-requires c κs = search needs
-
-returns : tie.Need-returns
-unfolding stepLeft stepShown cleared changedFrom
-returns c =
-    let placed = c .before .before .before .before in
-    let a = placed .before .before .before .args in
-    c .settle .ensures
-    ∙ settles (a .self .places .of)
-    (c .before .before .del-rule .ensures ∙ ap (ruleDeleted (a .size) (view (a .self .list)) (a .r)) (placed .place .ensures))
-    (c .before .cleared .ensures)
-    (c .before .before .before .index-of .ensures ∙ ap (λ (place : ℕ). place - 1) (placed .place .ensures))
 
 pub rule-deleted-spec : {M : Type 1} → statement M
 rule-deleted-spec =

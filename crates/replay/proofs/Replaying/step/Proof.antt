@@ -3,6 +3,21 @@ use borrow.Author.Needs.{needs}
 use Rattle.replay.proofs.Replaying.step.Statement.{statement}
 use Rattle.replay.proofs.Replaying.step.Tie as tie
 
+returns : tie.Need-returns
+returns c = rw (c .before .before .c .given .1) (c .appended .ensures)
+
+returns-2 : tie.Need-returns-2
+returns-2 c = rw (c .before .before .c2 .given .1) (c .rule-deleted .ensures)
+
+returns-3 : tie.Need-returns-3
+returns-3 c = rw (c .before .before .c3 .given .1) (c .inserted .ensures)
+
+returns-4 : tie.Need-returns-4
+returns-4 c = rw (c .before .before .c4 .given .1) (c .place-deleted .ensures _)
+
+returns-5 : tie.Need-returns-5
+returns-5 c = rw (c .before .before .c5 .given .1) (c .moved .ensures _)
+
 enum-known-c : tie.Need-enum-known-c
 enum-known-c c = search needs
 
@@ -44,21 +59,6 @@ cast-moved-2 c = search needs
 
 moved-requires : tie.Need-moved-requires
 moved-requires c κs = search needs
-
-returns : tie.Need-returns
-returns c = rw (c .before .before .c .given .1) (c .appended .ensures)
-
-returns-2 : tie.Need-returns-2
-returns-2 c = rw (c .before .before .c2 .given .1) (c .rule-deleted .ensures)
-
-returns-3 : tie.Need-returns-3
-returns-3 c = rw (c .before .before .c3 .given .1) (c .inserted .ensures)
-
-returns-4 : tie.Need-returns-4
-returns-4 c = rw (c .before .before .c4 .given .1) (c .place-deleted .ensures _)
-
-returns-5 : tie.Need-returns-5
-returns-5 c = rw (c .before .before .c5 .given .1) (c .moved .ensures _)
 
 pub step-spec : {M : Type 1} → statement M
 step-spec =

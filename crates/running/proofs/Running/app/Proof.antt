@@ -11,12 +11,6 @@ use borrow.Author.Needs.{needs}
 use Rattle.running.proofs.Running.app.Statement.{statement}
 use Rattle.running.proofs.Running.app.Tie as tie
 
-count-requires : tie.Need-count-requires
-count-requires c κs = search needs
-
-refused-requires : tie.Need-refused-requires
-refused-requires c κs = search needs
-
 returns : tie.Need-returns
 unfolding appended
 returns c = c .refused .ensures ∙ fails _ _ _ (le-ltb _ _ (c .before .if1 .taken))
@@ -25,18 +19,12 @@ returns c = c .refused .ensures ∙ fails _ _ _ (le-ltb _ _ (c .before .if1 .tak
 nowhere : (c : tie.Else2) → eqb (c .before .before .before .args .place) 0 ≡ true
 nowhere c = eq-eqb _ _ (c .if2 .left)
 
-refused-requires-2 : tie.Need-refused-requires-2
-refused-requires-2 c κs = search needs
-
 returns-2 : tie.Need-returns-2
 unfolding appended
 returns-2 c =
     c .refused2 .ensures
     ∙ fails _ _ _ (ne-eqb _ _ (c .before .if2 .taken))
     ∙ goes _ _ _ (lt-ltb _ _ (c .before .before .if1 .left))
-
-refused-requires-3 : tie.Need-refused-requires-3
-refused-requires-3 c κs = search needs
 
 returns-3 : tie.Need-returns-3
 unfolding appended roomy
@@ -45,18 +33,6 @@ returns-3 c =
     ∙ fails _ _ _ (le-ltb _ _ (rw (c .before .before .before .before .count .ensures) at (c .before .if3 .taken)))
     ∙ goes _ _ _ (nowhere (c .before .before))
     ∙ goes _ _ _ (lt-ltb _ _ (c .before .before .before .if1 .left))
-
-mul-rules : tie.Need-mul-rules
-mul-rules c = search needs
-
-array-write-rules : tie.Need-array-write-rules
-array-write-rules c = search needs
-
-add-changed : tie.Need-add-changed
-add-changed c = search needs
-
-changed-requires : tie.Need-changed-requires
-changed-requires c κs = search needs
 
 returns-4 : tie.Need-returns-4
 unfolding appended roomy
@@ -72,6 +48,30 @@ returns-4 c =
     ∙ goes _ _ _ (lt-ltb _ _ (rw (counted .ensures) at room))
     ∙ goes _ _ _ (nowhere (c .before .before .before))
     ∙ goes _ _ _ (lt-ltb _ _ (c .before .before .before .before .if1 .left))
+
+count-requires : tie.Need-count-requires
+count-requires c κs = search needs
+
+refused-requires : tie.Need-refused-requires
+refused-requires c κs = search needs
+
+refused-requires-2 : tie.Need-refused-requires-2
+refused-requires-2 c κs = search needs
+
+refused-requires-3 : tie.Need-refused-requires-3
+refused-requires-3 c κs = search needs
+
+mul-rules : tie.Need-mul-rules
+mul-rules c = search needs
+
+array-write-rules : tie.Need-array-write-rules
+array-write-rules c = search needs
+
+add-changed : tie.Need-add-changed
+add-changed c = search needs
+
+changed-requires : tie.Need-changed-requires
+changed-requires c κs = search needs
 
 pub app-spec : {M : Type 1} → statement M
 app-spec =

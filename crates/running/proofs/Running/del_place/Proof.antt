@@ -13,15 +13,6 @@ use borrow.Author.Needs.{needs}
 use Rattle.running.proofs.Running.del_place.Statement.{statement}
 use Rattle.running.proofs.Running.del_place.Tie as tie
 
-count-requires : tie.Need-count-requires
-count-requires c κs = search needs
-
-in-range-requires : tie.Need-in-range-requires
-in-range-requires c κs = search needs
-
-refused-requires : tie.Need-refused-requires
-refused-requires c κs = search needs
-
 returns : tie.Need-returns
 unfolding placeDeleted
 returns c =
@@ -46,9 +37,6 @@ closed-requires c κs = omega (arith, bounds (c .before))
 sub-changed : tie.Need-sub-changed
 sub-changed c = omega (arith, bounds (c .before .before))
 
-changed-requires : tie.Need-changed-requires
-changed-requires c κs = search needs
-
 returns-2 : tie.Need-returns-2
 unfolding placeDeleted
 returns-2 c =
@@ -60,6 +48,18 @@ returns-2 c =
     (shows-lifted _ (at .before .before .before .args .i) (self .rules) (c .before .closed .result) (view self)
     (view-count self _ (counted .ensures)) (bounds at .0) (bounds at .1) (c .before .closed .ensures))
     ∙ goes _ _ _ (within-list at)
+
+count-requires : tie.Need-count-requires
+count-requires c κs = search needs
+
+in-range-requires : tie.Need-in-range-requires
+in-range-requires c κs = search needs
+
+refused-requires : tie.Need-refused-requires
+refused-requires c κs = search needs
+
+changed-requires : tie.Need-changed-requires
+changed-requires c κs = search needs
 
 pub del-place-spec : {M : Type 1} → statement M
 del-place-spec =

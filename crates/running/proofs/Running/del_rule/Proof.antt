@@ -14,25 +14,13 @@ use borrow.Author.Needs.{needs}
 use Rattle.running.proofs.Running.del_rule.Statement.{statement}
 use Rattle.running.proofs.Running.del_rule.Tie as tie
 
-count-requires : tie.Need-count-requires
-count-requires c κs = search needs
-
-refused-requires : tie.Need-refused-requires
-refused-requires c κs = search needs
-
 returns : tie.Need-returns
 unfolding ruleDeleted
 returns c = c .refused .ensures ∙ fails _ _ _ (le-ltb _ _ (c .before .if1 .taken))
 
-in-range-requires : tie.Need-in-range-requires
-in-range-requires c κs = search needs
-
 -- the test passed: a place of the list, and a slot of the array
 within-list : (c : tie.Else2) → within (c .before .before .before .before .args .place) (length (view (c .before .before .before .before .args .self))) ≡ true
 within-list c = in-range _ (c .before .in-range .ensures) (c .before .before .before .count .ensures) (c .if2 .left)
-
-refused-requires-2 : tie.Need-refused-requires-2
-refused-requires-2 c κs = search needs
 
 returns-2 : tie.Need-returns-2
 unfolding ruleDeleted
@@ -60,9 +48,6 @@ closed-requires c κs = omega (arith, bounds (c .before))
 sub-changed : tie.Need-sub-changed
 sub-changed c = omega (arith, bounds (c .before .before))
 
-changed-requires : tie.Need-changed-requires
-changed-requires c κs = search needs
-
 returns-3 : tie.Need-returns-3
 unfolding ruleDeleted
 returns-3 c =
@@ -75,6 +60,21 @@ returns-3 c =
     (view-count self _ (at .before .before .before .count .ensures)) (bounds at .0) (bounds at .1) (c .before .closed .ensures))
     ∙ goes _ _ _ (within-list at)
     ∙ goes _ _ _ (lt-ltb _ _ (at .before .before .if1 .left))
+
+count-requires : tie.Need-count-requires
+count-requires c κs = search needs
+
+refused-requires : tie.Need-refused-requires
+refused-requires c κs = search needs
+
+in-range-requires : tie.Need-in-range-requires
+in-range-requires c κs = search needs
+
+refused-requires-2 : tie.Need-refused-requires-2
+refused-requires-2 c κs = search needs
+
+changed-requires : tie.Need-changed-requires
+changed-requires c κs = search needs
 
 pub del-rule-spec : {M : Type 1} → statement M
 del-rule-spec =

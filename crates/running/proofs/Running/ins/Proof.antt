@@ -16,12 +16,6 @@ use borrow.Author.Needs.{needs}
 use Rattle.running.proofs.Running.ins.Statement.{statement}
 use Rattle.running.proofs.Running.ins.Tie as tie
 
-count-requires : tie.Need-count-requires
-count-requires c κs = search needs
-
-refused-requires : tie.Need-refused-requires
-refused-requires c κs = search needs
-
 -- the first refusal is 23
 returns : tie.Need-returns
 unfolding inserted
@@ -34,12 +28,6 @@ add-in-range c =
     let start = c .before .before in
     let slots = field-length 1024 (start .args .self .rules) (start .good .0 .1 .1 .0 .1 .0 .1) in
     record { fits = omega (arith, c .before .count .ensures, view-fits (start .args .self)) }
-
-in-range-requires : tie.Need-in-range-requires
-in-range-requires c κs = search needs
-
-refused-requires-2 : tie.Need-refused-requires-2
-refused-requires-2 c κs = search needs
 
 -- one more than the length
 top : (c : tie.After-count) → c .count .result + 1 ≡ suc (length (view (c .before .args .self)))
@@ -57,9 +45,6 @@ returns-2 c =
 within-list : (c : tie.Else2) → within (c .before .before .before .before .args .i) (suc (length (view (c .before .before .before .before .args .self)))) ≡ true
 within-list c = in-range _ (c .before .in-range .ensures) (top (c .before .before .before)) (c .if2 .left)
 
-refused-requires-3 : tie.Need-refused-requires-3
-refused-requires-3 c κs = search needs
-
 returns-3 : tie.Need-returns-3
 unfolding inserted
 returns-3 c =
@@ -68,9 +53,6 @@ returns-3 c =
     ∙ fails _ _ _ (ne-eqb _ _ (c .before .if3 .taken))
     ∙ goes _ _ _ (within-list at)
     ∙ goes _ _ _ (lt-ltb _ _ (at .before .before .if1 .left))
-
-refused-requires-4 : tie.Need-refused-requires-4
-refused-requires-4 c κs = search needs
 
 returns-4 : tie.Need-returns-4
 unfolding inserted roomy
@@ -92,12 +74,6 @@ sub-opened c = bounds (c .before .before .before) .0
 opened-requires : tie.Need-opened-requires
 opened-requires c κs = omega (arith, bounds (c .before .before .before), c .before .if4 .left)
 
-add-changed : tie.Need-add-changed
-add-changed c = search needs
-
-changed-requires : tie.Need-changed-requires
-changed-requires c κs = search needs
-
 returns-5 : tie.Need-returns-5
 unfolding inserted roomy
 returns-5 c =
@@ -114,6 +90,30 @@ returns-5 c =
     ∙ goes _ _ _ (eq-eqb _ _ (last .before .if3 .left))
     ∙ goes _ _ _ (within-list at)
     ∙ goes _ _ _ (lt-ltb _ _ (at .before .before .if1 .left))
+
+count-requires : tie.Need-count-requires
+count-requires c κs = search needs
+
+refused-requires : tie.Need-refused-requires
+refused-requires c κs = search needs
+
+in-range-requires : tie.Need-in-range-requires
+in-range-requires c κs = search needs
+
+refused-requires-2 : tie.Need-refused-requires-2
+refused-requires-2 c κs = search needs
+
+refused-requires-3 : tie.Need-refused-requires-3
+refused-requires-3 c κs = search needs
+
+refused-requires-4 : tie.Need-refused-requires-4
+refused-requires-4 c κs = search needs
+
+add-changed : tie.Need-add-changed
+add-changed c = search needs
+
+changed-requires : tie.Need-changed-requires
+changed-requires c κs = search needs
 
 pub ins-spec : {M : Type 1} → statement M
 ins-spec =

@@ -13,27 +13,12 @@ use borrow.Author.Needs.{needs}
 use Rattle.running.proofs.Running.mov.Statement.{statement}
 use Rattle.running.proofs.Running.mov.Tie as tie
 
-count-requires : tie.Need-count-requires
-count-requires c κs = search needs
-
-in-range-requires : tie.Need-in-range-requires
-in-range-requires c κs = search needs
-
-refused-requires : tie.Need-refused-requires
-refused-requires c κs = search needs
-
 returns : tie.Need-returns
 unfolding relocated
 returns c =
     let at = c .before .before in
     c .refused .ensures
     ∙ fails _ _ _ (rw (out-of-range _ (at .in-range .ensures) (at .before .count .ensures) (c .before .if1 .taken)))
-
-in-range-requires-2 : tie.Need-in-range-requires-2
-in-range-requires-2 c κs = search needs
-
-refused-requires-2 : tie.Need-refused-requires-2
-refused-requires-2 c κs = search needs
 
 -- the first test passed
 from-list : (c : tie.Else1) → within (c .before .before .before .args .i) (length (view (c .before .before .before .args .self))) ≡ true
@@ -104,6 +89,21 @@ sub-opened-2 c = omega (arith, to (c .before .before))
 
 opened-requires : tie.Need-opened-requires
 opened-requires c κs = omega (arith, from (c .before .before), to (c .before .before))
+
+count-requires : tie.Need-count-requires
+count-requires c κs = search needs
+
+in-range-requires : tie.Need-in-range-requires
+in-range-requires c κs = search needs
+
+refused-requires : tie.Need-refused-requires
+refused-requires c κs = search needs
+
+in-range-requires-2 : tie.Need-in-range-requires-2
+in-range-requires-2 c κs = search needs
+
+refused-requires-2 : tie.Need-refused-requires-2
+refused-requires-2 c κs = search needs
 
 changed-requires : tie.Need-changed-requires
 changed-requires c κs = search needs

@@ -17,9 +17,6 @@ use borrow.Author.Needs.{needs}
 use Rattle.running.proofs.Running.naming.Statement.{statement}
 use Rattle.running.proofs.Running.naming.Tie as tie
 
-count-requires : tie.Need-count-requires
-count-requires c κs = search needs
-
 fits : (c : tie.After-count) → c .count .result ≤ 1024
 fits c =
     let start = c .before in
@@ -61,6 +58,9 @@ returns-2 c = names-twice _ _ (inside (c .before .before)) (not-true _ (sym (twi
 
 returns-3 : tie.Need-returns-3
 returns-3 c = names-once _ _ (inside (c .before .before)) (not-false _ (sym (twice-is (c .before)) ∙ c .if3 .left))
+
+count-requires : tie.Need-count-requires
+count-requires c κs = search needs
 
 pub naming-spec : {M : Type 1} → statement M
 naming-spec =

@@ -6,8 +6,8 @@ use mathlib.Core.Path.{_≡_, refl}
 use lib.ListN.{length, drop, getD}
 use lib.Seq.{drop-cons}
 use Rattle.deployment.specs.Values.{numbersOf}
-use Rattle.listing.specs.Text.{spaced, spacedAll}
-use Rattle.listing.proofs.Lines.{Lines, one-line, all-lines}
+use Rattle.lines.specs.Text.{spaced, spacedAll}
+use Rattle.lines.proofs.Lines.{Lines, one-line, all-lines}
 use Rattle.showing.proofs.NumberLines.{following, none-following}
 use borrow.Author.Needs.{needs}
 use Rattle.showing.proofs.lists.put_following.Statement.{statement}
@@ -20,28 +20,10 @@ Inv-loop place₀ at list count next₀ k₀ place next k =
 abbrev μ-loop : tie.MeasureT-loop
 μ-loop place₀ at list count next₀ k₀ place next k = count - k
 
-listed-requires : tie.Need-listed-requires Inv-loop μ-loop
-listed-requires c κs = search needs
-
 loop-holds : tie.Need-loop-holds Inv-loop μ-loop
 loop-holds c =
     let args = c .before .before .before .args in
     (refl, none-following (numbersOf (args .list .now)) (args .place .now) (args .at))
-
-number-at-requires : tie.Need-number-at-requires Inv-loop μ-loop
-number-at-requires c κs = search needs
-
-cast-put-spaced : tie.Need-cast-put-spaced Inv-loop μ-loop
-cast-put-spaced c = search needs
-
-put-spaced-requires : tie.Need-put-spaced-requires Inv-loop μ-loop
-put-spaced-requires c κs = search needs
-
-add-k : tie.Need-add-k Inv-loop μ-loop
-add-k c = search needs
-
-loop-less : tie.Need-loop-less Inv-loop μ-loop
-loop-less c = search needs
 
 loop-again : tie.Need-loop-again Inv-loop μ-loop
 unfolding spacedAll
@@ -65,6 +47,24 @@ returns c =
     let now = c .before in
     let numbers = numbersOf (now .before .before .before .before .args .list .now) in
     all-lines following 0 numbers (now .loop .k) (now .loop .inv .1) (omega (arith, now .before .listed .ensures, c .loop-test .left)) refl
+
+listed-requires : tie.Need-listed-requires Inv-loop μ-loop
+listed-requires c κs = search needs
+
+number-at-requires : tie.Need-number-at-requires Inv-loop μ-loop
+number-at-requires c κs = search needs
+
+cast-put-spaced : tie.Need-cast-put-spaced Inv-loop μ-loop
+cast-put-spaced c = search needs
+
+put-spaced-requires : tie.Need-put-spaced-requires Inv-loop μ-loop
+put-spaced-requires c κs = search needs
+
+add-k : tie.Need-add-k Inv-loop μ-loop
+add-k c = search needs
+
+loop-less : tie.Need-loop-less Inv-loop μ-loop
+loop-less c = search needs
 
 pub put-following-spec : {M : Type 1} → statement M
 put-following-spec =

@@ -1,0 +1,3 @@
+-- Laws that the proofs of the planner for append and delete cite.
+pub mod DeletesAppends
+pub mod Answers

@@ -1,0 +1,5 @@
+pub mod SideBySide
+pub mod Rules
+pub mod Marking
+pub mod Catalogue
+pub mod Answers

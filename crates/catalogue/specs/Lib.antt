@@ -1,0 +1,3 @@
+-- What the tests of a catalogue's rules answer, over the definitions of the deployment crate.
+pub mod Answers
+pub mod RuleMarks

@@ -1,1 +1,0 @@
--- The decision's contracts are stated with the definitions of the crates below; there are none of its own.

@@ -1,0 +1,70 @@
+-- `lists::judge` meets its contract: values that pass hold the contents that are read of them, and the verdict on them is the answer. Assumes
+-- nothing.
+use native.Mathlib.Omega.{arith}
+use mathlib.Core.Path.{refl}
+use mathlib.Core.Bool.{true}
+use borrow.Author.Needs.{needs}
+use Rattle.deployment.proofs.Bytes.{elements-are-bytes}
+use Rattle.values.proofs.ValuesLent.{Lent, LentRead}
+use Rattle.deployment.proofs.Lent.{turned-away}
+use Rattle.entries.specs.Answers.{judgedReading}
+use Rattle.entries.proofs.Given.{values-passed, values-turned, judge-asks, said, values-to-judge}
+use Rattle.entries.proofs.lists.judge.Statement.{statement}
+use Rattle.entries.proofs.lists.judge.Tie as tie
+
+abbrev start : tie.After-values-checked → tie.Start
+start c = c .before .before .before .before .before .before
+
+abbrev lent : tie.After-values-checked → Lent
+lent c =
+    let args = start c .args in
+    record {
+      rules = args .rules .now;
+      initial = args .initial .now;
+      target = args .target .now;
+      has-keep = args .has-keep;
+      keep = args .keep .now;
+      has-script = true;
+      script = args .script .now;
+    }
+
+-- the values pass
+passed : (c : tie.After-enum-told) → LentRead (lent (c .before .before))
+passed c =
+    let at = c .before .before in
+    let script-known = at .before in
+    let keep-known = script-known .before in
+    let target-known = keep-known .before in
+    let initial-known = target-known .before in
+    let rules-known = initial-known .before in
+    values-passed (lent at) (at .values-checked .ensures)
+    (elements-are-bytes _ (λ i. omega (arith, rules-known .shared-slice-known .given i)))
+    (elements-are-bytes _ (λ i. omega (arith, initial-known .shared-slice-known2 .given i)))
+    (elements-are-bytes _ (λ i. omega (arith, target-known .shared-slice-known3 .given i)))
+    (elements-are-bytes _ (λ i. omega (arith, keep-known .shared-slice-known4 .given i)))
+    (elements-are-bytes _ (λ i. omega (arith, script-known .shared-slice-known5 .given i)))
+    (c .enum-told .given .1)
+
+verdict-of-requires : tie.Need-verdict-of-requires
+verdict-of-requires c κs = judge-asks (values-to-judge (passed c) refl)
+
+returns : tie.Need-returns
+unfolding judgedReading
+returns c =
+    let at = c .before .before .before in
+    turned-away _ _ _ (values-turned (lent at) (at .values-checked .ensures) (c .before .c .given .1))
+
+returns-2 : tie.Need-returns-2
+returns-2 c = said (values-to-judge (passed (c .before)) refl) (c .verdict-of .ensures)
+
+values-checked-requires : tie.Need-values-checked-requires
+values-checked-requires c κs = search needs
+
+enum-known-c : tie.Need-enum-known-c
+enum-known-c c = search needs
+
+enum-told : tie.Need-enum-told
+enum-told c = search needs
+
+pub judge-spec : {M : Type 1} → statement M
+judge-spec = tie.close (tie.spec values-checked-requires enum-known-c enum-told verdict-of-requires returns returns-2)

@@ -1,0 +1,2 @@
+pub mod Copying
+pub mod Answers

@@ -1,0 +1,8 @@
+-- Laws of the lines.
+pub mod Digits
+pub mod Pieces
+pub mod Lines
+pub mod Lengths
+pub mod HandedOver
+pub mod Answers
+pub mod Examples

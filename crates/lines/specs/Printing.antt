@@ -1,0 +1,38 @@
+-- What the printers need to know: where a text ends, and how long it can be. Assumes nothing.
+use Prim.Native.Nat.{ℕ, _+_, _*_, _^_, _≤_, _<_}
+use mathlib.Core.Path.{_≡_}
+use mathlib.Core.Logic.{_⊎_}
+use mathlib.Core.List.{List}
+use lib.ListN.{length}
+use Rattle.deployment.specs.FieldValues.{Stored}
+use Rattle.deployment.specs.Properties.{AreBytes}
+use Rattle.lines.specs.Text.{spacedAll}
+
+-- a file whose positions have 64 bits, as every lent one
+abbrev pub IsFile : List ℕ → Type 0
+IsFile file = AreBytes file × (length file < 2 ^ 64)
+
+-- bytes put from a position on, and the position behind them, wherever 64 bits hold it
+pub record Puts (before : List ℕ) (at : ℕ) (bytes after : List ℕ) (next : ℕ) : Type 0 where
+  pub stored : at + length bytes < 2 ^ 64 → Stored before at bytes after next
+
+-- numbers put one behind the other, each of at most twenty digits behind a blank
+abbrev pub most-number : ℕ
+most-number = 21
+
+pub record PutsAll (before : List ℕ) (at : ℕ) (numbers after : List ℕ) (next : ℕ) : Type 0 where
+  pub put : Puts before at (spacedAll numbers) after next
+  pub short : length (spacedAll numbers) ≤ most-number * length numbers
+
+-- a whole text, from the start of a place on, of at most so many bytes
+pub record Whole (most : ℕ) (before bytes after : List ℕ) (next : ℕ) : Type 0 where
+  pub put : Stored before 0 bytes after next
+  pub ends : length bytes ≤ most
+
+-- no line of an outcome is longer: `verdict` and three numbers
+abbrev pub most-line : ℕ
+most-line = 71
+
+-- the bytes that a text of at most so many needs; 0 will do where there is room for every such text
+abbrev pub Needed : ℕ → List ℕ → ℕ → ℕ → Type 0
+Needed most text room n = (n ≡ length text) ⊎ ((n ≡ 0) × (most ≤ room))

@@ -1,0 +1,4 @@
+pub mod Support
+pub mod Growth
+pub mod Search
+pub mod Answers

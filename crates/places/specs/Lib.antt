@@ -1,0 +1,2 @@
+-- The side array of the running list.
+pub mod Places

@@ -1,0 +1,2 @@
+-- Laws that the proofs of the second stage cite.
+pub mod SecondStage
