@@ -26,8 +26,8 @@
  * the value without the head. pageoriole_take_script makes the step between.
  *
  * Stack. A call touches at most PAGEORIOLE_STACK bytes, and pageoriole_plan_text at most PAGEORIOLE_STACK_TEXT. This is measured and not
- * proved: c/stack.c runs every function on the largest inputs and fails above these. It finds 31,384 bytes (pageoriole_plan_two_file), and
- * 36,776 for pageoriole_plan_text.
+ * proved: c/stack.c runs every function on the largest inputs and fails above these. It finds 30,216 bytes (pageoriole_replay_file), and
+ * 35,544 for pageoriole_plan_text.
  */
 #ifndef PAGEORIOLE_H
 #define PAGEORIOLE_H
