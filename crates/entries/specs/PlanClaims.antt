@@ -1,4 +1,4 @@
--- What a customer buys of the planners' entries when they turn away; what stands in the place else is said in crate `planner`. Each claim is
+-- What a customer buys of the planners' entries when they turn away; what stands in the place else is said in crate `plans`. Each claim is
 -- a statement; proofs/PlanClaims.antt has, for each, a proof of the same name in small letters with hyphens, and proofs/PlanAnswers.antt says
 -- it of each entry. Assumes nothing.
 use Prim.Native.Nat.{ℕ, _≤_}

@@ -117,7 +117,8 @@ pub fn number_at(value: &[u8], k: usize) -> u16
     if listed(value) <= k {
         return 0;
     }
-    two_at(value, NUMBER_BYTES * k)
+    let at = NUMBER_BYTES * k;
+    two(value[at], value[at + 1])
 }
 
 // The list of a value as a running list: its first 1,024 numbers.
