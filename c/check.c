@@ -117,17 +117,18 @@ static void read_as(const char *what, uint32_t number, const uint64_t *values, s
 
 static void check_read(void) {
     first_example();
-    read_as("read, first example", PAGEORIOLE_DONE, VALUES(5, 153, 8, 164, 8, 0, 0, 0, 0, 0, 0));
+    read_as("read, first example", PAGEORIOLE_DONE, VALUES(5, 153, 8, 164, 8, 0, 0, 0, 0, 0, 0, 0, 0, 0));
     told("read for the judge, first example", pageoriole_read_to_judge(FILE_MADE, ANSWER), PAGEORIOLE_NO_SCRIPT, VALUES(172));
+    field(6, BYTES(1));
     field(4, NOTHING);
     field(5, SCRIPT_TWO);
-    read_as("read, all fields", PAGEORIOLE_DONE, VALUES(5, 153, 8, 164, 8, 1, 175, 0, 1, 178, 16));
+    read_as("read, all fields", PAGEORIOLE_DONE, VALUES(5, 153, 8, 164, 8, 1, 175, 1, 1, 179, 0, 1, 182, 16));
     told("read for the judge, all fields", pageoriole_read_to_judge(FILE_MADE, ANSWER), PAGEORIOLE_DONE,
-         VALUES(5, 153, 8, 164, 8, 1, 175, 0, 1, 178, 16));
+         VALUES(5, 153, 8, 164, 8, 1, 175, 1, 1, 179, 0, 1, 182, 16));
     made[made_size++] = 9;
-    read_as("read 1, one byte behind the script", PAGEORIOLE_CUT, VALUES(194));
-    told("read, four words of room", pageoriole_read(made, 194, answer, 4), PAGEORIOLE_DONE, VALUES(5, 153, 8, 164));
-    told("read, no room", pageoriole_read(made, 194, NULL, 0), PAGEORIOLE_DONE, NULL, 0);
+    read_as("read 1, one byte behind the script", PAGEORIOLE_CUT, VALUES(198));
+    told("read, four words of room", pageoriole_read(made, 198, answer, 4), PAGEORIOLE_DONE, VALUES(5, 153, 8, 164));
+    told("read, no room", pageoriole_read(made, 198, NULL, 0), PAGEORIOLE_DONE, NULL, 0);
     first_example();
     made_size -= 1;
     read_as("read 1, a value cut off", PAGEORIOLE_CUT, VALUES(161));
@@ -148,7 +149,7 @@ static void check_read(void) {
     catalogue(PAGEORIOLE_RULES);
     field(2, NOTHING);
     field(3, NOTHING);
-    read_as("read, 1,024 rules", PAGEORIOLE_DONE, VALUES(1024, 30723, 0, 30726, 0, 0, 0, 0, 0, 0, 0));
+    read_as("read, 1,024 rules", PAGEORIOLE_DONE, VALUES(1024, 30723, 0, 30726, 0, 0, 0, 0, 0, 0, 0, 0, 0, 0));
     catalogue(PAGEORIOLE_RULES + 1);
     read_as("read 7", PAGEORIOLE_TOO_MANY, VALUES(30720));
     catalogue(2);
@@ -167,12 +168,58 @@ static void check_read(void) {
     read_as("read 11", PAGEORIOLE_CODING, VALUES(172));
 }
 
+/* The first example with a default. */
+static void with_default(const uint8_t *value, size_t size) {
+    first_example();
+    field(6, value, size);
+}
+
+static void check_read_default(void) {
+    with_default(BYTES(1));
+    read_as("read, a default", PAGEORIOLE_DONE, VALUES(5, 153, 8, 164, 8, 1, 175, 1, 0, 0, 0, 0, 0, 0));
+    told("read for the judge, a default", pageoriole_read_to_judge(FILE_MADE, ANSWER), PAGEORIOLE_NO_SCRIPT, VALUES(176));
+    field(6, BYTES(1));
+    read_as("read 2, two defaults", PAGEORIOLE_TAG, VALUES(176));
+    with_default(BYTES(0));
+    read_as("read 50, a default of 0", PAGEORIOLE_DEFAULT, VALUES(172));
+    told("read for the judge, 50", pageoriole_read_to_judge(FILE_MADE, ANSWER), PAGEORIOLE_DEFAULT, VALUES(172));
+    with_default(BYTES(2));
+    read_as("read 50, a default of 2", PAGEORIOLE_DEFAULT, VALUES(172));
+    field(4, BYTES(0, 9));
+    read_as("read 50 before 10", PAGEORIOLE_DEFAULT, VALUES(172));
+    with_default(NOTHING);
+    read_as("read 4, a default of no byte", PAGEORIOLE_LENGTH, VALUES(172));
+    with_default(BYTES(1, 1));
+    read_as("read 4, a default of two bytes", PAGEORIOLE_LENGTH, VALUES(172));
+    with_default(BYTES(1));
+    made_size -= 1;
+    read_as("read 1, a default cut off", PAGEORIOLE_CUT, VALUES(172));
+    first_example();
+    field(4, NOTHING);
+    field(6, BYTES(1));
+    read_as("read 2, a default behind the keep list", PAGEORIOLE_TAG, VALUES(175));
+    first_example();
+    field(5, SCRIPT_TWO);
+    field(6, BYTES(1));
+    read_as("read 2, a default behind the script", PAGEORIOLE_TAG, VALUES(191));
+    catalogue(5);
+    field(2, I1);
+    field(6, BYTES(1));
+    read_as("read 2, a default before the target", PAGEORIOLE_TAG, VALUES(161));
+}
+
 static void check_decide_file(void) {
     first_example();
     told("decide by the initial policy", pageoriole_decide_file(FILE_MADE, false, 2, 0, 0, 0, 0, ANSWER), PAGEORIOLE_DONE, VALUES(1, 3));
     told("decide by the target", pageoriole_decide_file(FILE_MADE, true, 4, 0, 0, 0, 0, ANSWER), PAGEORIOLE_DONE, VALUES(1, 3));
     told("decide by a rule that denies", pageoriole_decide_file(FILE_MADE, true, 3, 0, 0, 0, 0, ANSWER), PAGEORIOLE_DONE, VALUES(0, 4));
     told("decide by the default", pageoriole_decide_file(FILE_MADE, true, 2, 0, 0, 0, 0, ANSWER), PAGEORIOLE_DONE, VALUES(0, 0));
+    with_default(BYTES(1));
+    told("decide by default permit", pageoriole_decide_file(FILE_MADE, true, 2, 0, 0, 0, 0, ANSWER), PAGEORIOLE_DONE, VALUES(1, 0));
+    told("the same by the initial policy", pageoriole_decide_file(FILE_MADE, false, 4, 0, 0, 0, 0, ANSWER), PAGEORIOLE_DONE, VALUES(1, 0));
+    told("a rule before the default", pageoriole_decide_file(FILE_MADE, true, 3, 0, 0, 0, 0, ANSWER), PAGEORIOLE_DONE, VALUES(0, 4));
+    with_default(BYTES(0));
+    told("decide 50", pageoriole_decide_file(FILE_MADE, true, 2, 0, 0, 0, 0, ANSWER), PAGEORIOLE_DEFAULT, VALUES(172));
     told("decide in a file turned away", pageoriole_decide_file(made, 160, true, 2, 0, 0, 0, 0, ANSWER), PAGEORIOLE_CUT, VALUES(150));
 }
 
@@ -191,6 +238,12 @@ static void check_decide_flows_file(void) {
     told("flows 4", pageoriole_decide_flows_file(FILE_MADE, true, BYTES(4, ZEROS, 3), NOTHING, ANSWER), PAGEORIOLE_LENGTH, VALUES(0));
     told("flows 13", pageoriole_decide_flows_file(FILE_MADE, true, FLOWS_432, place, 8, ANSWER), PAGEORIOLE_ROOM, VALUES(9));
     holds("flows 13", NOTHING);
+    with_default(BYTES(1));
+    told("flows by default permit", pageoriole_decide_flows_file(FILE_MADE, true, FLOWS_432, PLACE, ANSWER), PAGEORIOLE_DONE, VALUES(9));
+    holds("flows by default permit", BYTES(1, 0, 3, 0, 0, 4, 1, 0, 0));
+    with_default(BYTES(0));
+    told("flows 50", pageoriole_decide_flows_file(FILE_MADE, true, FLOWS_432, PLACE, ANSWER), PAGEORIOLE_DEFAULT, VALUES(172));
+    holds("flows 50", NOTHING);
 }
 
 static void check_replay_file(void) {
@@ -244,14 +297,39 @@ static void check_judge_file(void) {
     told("judge 30", pageoriole_judge_file(FILE_MADE, ANSWER), PAGEORIOLE_UNORDERED, VALUES(1, 2));
 }
 
+/* No command changes the default, so replay, plans and verdicts are the same under either. */
+static void check_default_file(void) {
+    with_default(BYTES(1));
+    told("plan of type 1, a default", pageoriole_plan_one_file(FILE_MADE, PLACE, ANSWER), PAGEORIOLE_DONE, VALUES(1, 6, 34));
+    holds("plan of type 1, a default", PLAN_ONE);
+    told("plan of type 2, a default", pageoriole_plan_two_file(FILE_MADE, PLACE, ANSWER), PAGEORIOLE_DONE, VALUES(2, 3, 19));
+    holds("plan of type 2, a default", PLAN_TWO);
+    told("judge 12, a default", pageoriole_judge_file(FILE_MADE, ANSWER), PAGEORIOLE_NO_SCRIPT, VALUES(176));
+    field(5, SCRIPT_ONE);
+    told("judge 31, a default", pageoriole_judge_file(FILE_MADE, ANSWER), PAGEORIOLE_NOT_FULL, NULL, 0);
+    told("replay, a default", pageoriole_replay_file(FILE_MADE, PLACE, ANSWER), PAGEORIOLE_DONE, VALUES(8));
+    holds("replay, a default", T1);
+    with_default(BYTES(1));
+    field(5, SCRIPT_TWO);
+    told("judge 32, a default", pageoriole_judge_file(FILE_MADE, ANSWER), PAGEORIOLE_SAFE, NULL, 0);
+    with_default(BYTES(0));
+    field(5, SCRIPT_TWO);
+    told("plan of type 1, 50", pageoriole_plan_one_file(FILE_MADE, PLACE, ANSWER), PAGEORIOLE_DEFAULT, VALUES(172));
+    holds("plan of type 1, 50", NOTHING);
+    told("plan of type 2, 50", pageoriole_plan_two_file(FILE_MADE, PLACE, ANSWER), PAGEORIOLE_DEFAULT, VALUES(172));
+    told("judge 50", pageoriole_judge_file(FILE_MADE, ANSWER), PAGEORIOLE_DEFAULT, VALUES(172));
+    told("replay 50", pageoriole_replay_file(FILE_MADE, PLACE, ANSWER), PAGEORIOLE_DEFAULT, VALUES(172));
+    holds("replay 50", NOTHING);
+}
+
 #define TEXT(words) (const uint8_t *)words, sizeof words - 1
 
 /* The first example in words. */
 #define ANY "source any port any destination any port any\n"
-#define SHOWN_TEXT                                                                                                                             \
+#define SHOWN_TEXT(action)                                                                                                                     \
     "rules 5\n0 permit protocol 0 " ANY "1 deny protocol 1 " ANY "2 permit protocol 2 " ANY "3 deny protocol 3 " ANY "4 permit protocol 4 " ANY    \
-    "initial 4\n0 1 2 3\ntarget 4\n1 0 4 3\nkeep absent\nscript absent\n"
-enum { SHOWN = sizeof SHOWN_TEXT - 1 };
+    "initial 4\n0 1 2 3\ntarget 4\n1 0 4 3\ndefault " action "\nkeep absent\nscript absent\n"
+enum { SHOWN = sizeof SHOWN_TEXT("deny") - 1, SHOWN_PERMIT = sizeof SHOWN_TEXT("permit") - 1 };
 
 static void check_text(void) {
     first_example();
@@ -277,61 +355,96 @@ static void check_text(void) {
 static void check_show_text(void) {
     first_example();
     told("file's text", pageoriole_show_text(FILE_MADE, PLACE, ANSWER), PAGEORIOLE_DONE, VALUES(SHOWN));
-    holds("file's text", TEXT(SHOWN_TEXT));
+    holds("file's text", TEXT(SHOWN_TEXT("deny")));
     told("file's text, 13", pageoriole_show_text(made, made_size, place, SHOWN - 1, ANSWER), PAGEORIOLE_ROOM, VALUES(SHOWN));
     holds("file's text, 13", NOTHING);
+    with_default(BYTES(1));
+    told("file's text, a default", pageoriole_show_text(FILE_MADE, PLACE, ANSWER), PAGEORIOLE_DONE, VALUES(SHOWN_PERMIT));
+    holds("file's text, a default", TEXT(SHOWN_TEXT("permit")));
+    with_default(BYTES(0));
+    told("file's text, 50", pageoriole_show_text(FILE_MADE, PLACE, ANSWER), PAGEORIOLE_DONE, VALUES(18));
+    holds("file's text, 50", TEXT("refused 50 at 172\n"));
     told("file's text, 3", pageoriole_show_text(NOTHING, PLACE, ANSWER), PAGEORIOLE_DONE, VALUES(15));
     holds("file's text, 3", TEXT("refused 3 at 0\n"));
 }
 
 /* ---- field values ---- */
 
-/* What is lent for an absent keep list or script, and must not be looked at. */
+/* What is lent for an absent default, keep list or script, and must not be looked at. */
 #define ABSENT false, BYTES(7)
 #define HERE(...) true, BYTES(__VA_ARGS__)
+#define PERMITS HERE(1)
 
 #define passes(what, call) told(what, call, PAGEORIOLE_DONE, NULL, 0)
 #define turned(what, call, wanted) told(what, call, wanted, VALUES(0))
 
 static void check_check(void) {
     static uint8_t other[2 * PAGEORIOLE_RULE];
-    passes("check, first example", pageoriole_check(FIVE, I1, T1, ABSENT, ABSENT, ANSWER));
-    passes("check, all there", pageoriole_check(THREE, I3, T3, HERE(0, 0, 0, 1), HERE(2), ANSWER));
-    passes("check, all empty", pageoriole_check(NOTHING, NOTHING, NOTHING, true, NOTHING, false, NOTHING, ANSWER));
-    turned("check 4, rules", pageoriole_check(rules, 26, I1, T1, ABSENT, ABSENT, ANSWER), PAGEORIOLE_LENGTH);
-    turned("check 4, initial", pageoriole_check(FIVE, BYTES(0), T1, ABSENT, ABSENT, ANSWER), PAGEORIOLE_LENGTH);
-    turned("check 4, target", pageoriole_check(FIVE, I1, BYTES(0), ABSENT, ABSENT, ANSWER), PAGEORIOLE_LENGTH);
-    turned("check 4, keep list", pageoriole_check(FIVE, I1, T1, HERE(0), ABSENT, ANSWER), PAGEORIOLE_LENGTH);
-    turned("check 4, script", pageoriole_check(FIVE, I1, T1, ABSENT, true, NOTHING, ANSWER), PAGEORIOLE_LENGTH);
-    turned("check 7", pageoriole_check(rules, sizeof rules, I1, T1, ABSENT, ABSENT, ANSWER), PAGEORIOLE_TOO_MANY);
+    passes("check, first example", pageoriole_check(FIVE, I1, T1, ABSENT, ABSENT, ABSENT, ANSWER));
+    passes("check, all there", pageoriole_check(THREE, I3, T3, PERMITS, HERE(0, 0, 0, 1), HERE(2), ANSWER));
+    passes("check, all empty", pageoriole_check(NOTHING, NOTHING, NOTHING, ABSENT, true, NOTHING, false, NOTHING, ANSWER));
+    turned("check 4, rules", pageoriole_check(rules, 26, I1, T1, ABSENT, ABSENT, ABSENT, ANSWER), PAGEORIOLE_LENGTH);
+    turned("check 4, initial", pageoriole_check(FIVE, BYTES(0), T1, ABSENT, ABSENT, ABSENT, ANSWER), PAGEORIOLE_LENGTH);
+    turned("check 4, target", pageoriole_check(FIVE, I1, BYTES(0), ABSENT, ABSENT, ABSENT, ANSWER), PAGEORIOLE_LENGTH);
+    turned("check 4, keep list", pageoriole_check(FIVE, I1, T1, ABSENT, HERE(0), ABSENT, ANSWER), PAGEORIOLE_LENGTH);
+    turned("check 4, script", pageoriole_check(FIVE, I1, T1, ABSENT, ABSENT, true, NOTHING, ANSWER), PAGEORIOLE_LENGTH);
+    turned("check 7", pageoriole_check(rules, sizeof rules, I1, T1, ABSENT, ABSENT, ABSENT, ANSWER), PAGEORIOLE_TOO_MANY);
     memcpy(other, rules, sizeof other);
     other[2] = 5;
     other[1] = 6;
-    turned("check 5", pageoriole_check(other, sizeof other, NOTHING, NOTHING, ABSENT, ABSENT, ANSWER), PAGEORIOLE_BOUNDS);
+    turned("check 5", pageoriole_check(other, sizeof other, NOTHING, NOTHING, ABSENT, ABSENT, ABSENT, ANSWER), PAGEORIOLE_BOUNDS);
     memcpy(other, rules + PAGEORIOLE_RULE, PAGEORIOLE_RULE);
-    turned("check 6", pageoriole_check(other, sizeof other, NOTHING, NOTHING, ABSENT, ABSENT, ANSWER), PAGEORIOLE_EQUAL);
-    turned("check 8, initial", pageoriole_check(FIVE, BYTES(0, 5), T1, ABSENT, ABSENT, ANSWER), PAGEORIOLE_OUTSIDE);
-    turned("check 8, target", pageoriole_check(FIVE, I1, BYTES(0, 5), ABSENT, ABSENT, ANSWER), PAGEORIOLE_OUTSIDE);
-    turned("check 9", pageoriole_check(FIVE, I1, BYTES(0, 3, 0, 3), ABSENT, ABSENT, ANSWER), PAGEORIOLE_TWICE);
-    turned("check 10", pageoriole_check(THREE, I3, T3, HERE(0, 1, 0, 0), ABSENT, ANSWER), PAGEORIOLE_KEEP);
-    turned("check 11", pageoriole_check(FIVE, I1, T1, ABSENT, HERE(3), ANSWER), PAGEORIOLE_CODING);
+    turned("check 6", pageoriole_check(other, sizeof other, NOTHING, NOTHING, ABSENT, ABSENT, ABSENT, ANSWER), PAGEORIOLE_EQUAL);
+    turned("check 8, initial", pageoriole_check(FIVE, BYTES(0, 5), T1, ABSENT, ABSENT, ABSENT, ANSWER), PAGEORIOLE_OUTSIDE);
+    turned("check 8, target", pageoriole_check(FIVE, I1, BYTES(0, 5), ABSENT, ABSENT, ABSENT, ANSWER), PAGEORIOLE_OUTSIDE);
+    turned("check 9", pageoriole_check(FIVE, I1, BYTES(0, 3, 0, 3), ABSENT, ABSENT, ABSENT, ANSWER), PAGEORIOLE_TWICE);
+    turned("check 10", pageoriole_check(THREE, I3, T3, ABSENT, HERE(0, 1, 0, 0), ABSENT, ANSWER), PAGEORIOLE_KEEP);
+    turned("check 11", pageoriole_check(FIVE, I1, T1, ABSENT, ABSENT, HERE(3), ANSWER), PAGEORIOLE_CODING);
 }
 
 static void check_write(void) {
     first_example();
-    told("write, first example", pageoriole_write(FIVE, I1, T1, ABSENT, ABSENT, PLACE, ANSWER), PAGEORIOLE_DONE, VALUES(172));
+    told("write, first example", pageoriole_write(FIVE, I1, T1, ABSENT, ABSENT, ABSENT, PLACE, ANSWER), PAGEORIOLE_DONE, VALUES(172));
     holds("write, first example", FILE_MADE);
     field(4, NOTHING);
-    told("write, an empty keep list", pageoriole_write(FIVE, I1, T1, true, NOTHING, ABSENT, PLACE, ANSWER), PAGEORIOLE_DONE, VALUES(175));
+    told("write, an empty keep list", pageoriole_write(FIVE, I1, T1, ABSENT, true, NOTHING, ABSENT, PLACE, ANSWER), PAGEORIOLE_DONE, VALUES(175));
     holds("write, an empty keep list", FILE_MADE);
     first_example();
     field(5, SCRIPT_TWO);
-    told("write, a script", pageoriole_write(FIVE, I1, T1, ABSENT, true, SCRIPT_TWO, PLACE, ANSWER), PAGEORIOLE_DONE, VALUES(191));
+    told("write, a script", pageoriole_write(FIVE, I1, T1, ABSENT, ABSENT, true, SCRIPT_TWO, PLACE, ANSWER), PAGEORIOLE_DONE, VALUES(191));
     holds("write, a script", FILE_MADE);
-    told("write 13", pageoriole_write(FIVE, I1, T1, ABSENT, ABSENT, place, 171, ANSWER), PAGEORIOLE_ROOM, VALUES(172));
+    told("write 13", pageoriole_write(FIVE, I1, T1, ABSENT, ABSENT, ABSENT, place, 171, ANSWER), PAGEORIOLE_ROOM, VALUES(172));
     holds("write 13", NOTHING);
-    told("write 11", pageoriole_write(FIVE, I1, T1, ABSENT, HERE(3), PLACE, ANSWER), PAGEORIOLE_CODING, VALUES(0));
+    told("write 11", pageoriole_write(FIVE, I1, T1, ABSENT, ABSENT, HERE(3), PLACE, ANSWER), PAGEORIOLE_CODING, VALUES(0));
     holds("write 11", NOTHING);
+}
+
+static void check_check_default(void) {
+    turned("check 4, a default of no byte", pageoriole_check(FIVE, I1, T1, true, NOTHING, ABSENT, ABSENT, ANSWER), PAGEORIOLE_LENGTH);
+    turned("check 4, a default of two bytes", pageoriole_check(FIVE, I1, T1, HERE(1, 1), ABSENT, ABSENT, ANSWER), PAGEORIOLE_LENGTH);
+    turned("check 50, a default of 0", pageoriole_check(FIVE, I1, T1, HERE(0), ABSENT, ABSENT, ANSWER), PAGEORIOLE_DEFAULT);
+    turned("check 50, a default of 2", pageoriole_check(FIVE, I1, T1, HERE(2), ABSENT, ABSENT, ANSWER), PAGEORIOLE_DEFAULT);
+    turned("check 9 before 50", pageoriole_check(FIVE, I1, BYTES(0, 3, 0, 3), HERE(0), ABSENT, ABSENT, ANSWER), PAGEORIOLE_TWICE);
+    turned("check 50 before 10", pageoriole_check(THREE, I3, T3, HERE(0), HERE(0, 1, 0, 0), ABSENT, ANSWER), PAGEORIOLE_DEFAULT);
+    turned("check 50 before 11", pageoriole_check(FIVE, I1, T1, HERE(0), ABSENT, HERE(3), ANSWER), PAGEORIOLE_DEFAULT);
+}
+
+/* The default is written, reads back, and takes its four bytes of room. */
+static void check_write_default(void) {
+    with_default(BYTES(1));
+    told("write, a default", pageoriole_write(FIVE, I1, T1, PERMITS, ABSENT, ABSENT, PLACE, ANSWER), PAGEORIOLE_DONE, VALUES(176));
+    holds("write, a default", FILE_MADE);
+    compare("read what is written", pageoriole_read(place, 176, ANSWER), PAGEORIOLE_DONE,
+            VALUES(5, 153, 8, 164, 8, 1, 175, 1, 0, 0, 0, 0, 0, 0));
+    field(4, NOTHING);
+    field(5, SCRIPT_TWO);
+    told("write, all fields", pageoriole_write(FIVE, I1, T1, PERMITS, true, NOTHING, true, SCRIPT_TWO, PLACE, ANSWER), PAGEORIOLE_DONE,
+         VALUES(198));
+    holds("write, all fields", FILE_MADE);
+    told("write 13, a default", pageoriole_write(FIVE, I1, T1, PERMITS, ABSENT, ABSENT, place, 175, ANSWER), PAGEORIOLE_ROOM, VALUES(176));
+    holds("write 13, a default", NOTHING);
+    turned("write 50", pageoriole_write(FIVE, I1, T1, HERE(0), ABSENT, ABSENT, PLACE, ANSWER), PAGEORIOLE_DEFAULT);
+    holds("write 50", NOTHING);
 }
 
 /* One rule whose five ranges differ: protocol 6, source 10.0.0.0 to 10.0.0.255, port 258 to 515, destination 20.1.0.0 to 20.1.0.1, port 1027. */
@@ -358,15 +471,20 @@ enum { FLOWS = sizeof flows / sizeof *flows };
 static void check_decide(void) {
     for (size_t k = 0; k < FLOWS; k++) {
         told("decide",
-             pageoriole_decide(ONE_RULE, ALONE, flows[k].protocol, flows[k].source, flows[k].source_port, flows[k].destination,
+             pageoriole_decide(ONE_RULE, ALONE, ABSENT, flows[k].protocol, flows[k].source, flows[k].source_port, flows[k].destination,
                                flows[k].destination_port, ANSWER),
              PAGEORIOLE_DONE, VALUES(flows[k].action, flows[k].action));
     }
-    told("decide by the third", pageoriole_decide(FIVE, T1, 4, 0, 0, 0, 0, ANSWER), PAGEORIOLE_DONE, VALUES(1, 3));
-    told("decide by no rule", pageoriole_decide(FIVE, NOTHING, 4, 0, 0, 0, 0, ANSWER), PAGEORIOLE_DONE, VALUES(0, 0));
-    told("decide, protocol 47", pageoriole_decide(PORT_ZERO, ALONE, 47, TEN, 0, TWENTY, 0, ANSWER), PAGEORIOLE_DONE, VALUES(1, 1));
-    told("decide 8", pageoriole_decide(FIVE, BYTES(0, 5), 0, 0, 0, 0, 0, ANSWER), PAGEORIOLE_OUTSIDE, VALUES(0));
-    told("decide 4", pageoriole_decide(rules, 26, ALONE, 0, 0, 0, 0, 0, ANSWER), PAGEORIOLE_LENGTH, VALUES(0));
+    told("decide by the third", pageoriole_decide(FIVE, T1, ABSENT, 4, 0, 0, 0, 0, ANSWER), PAGEORIOLE_DONE, VALUES(1, 3));
+    told("decide by no rule", pageoriole_decide(FIVE, NOTHING, ABSENT, 4, 0, 0, 0, 0, ANSWER), PAGEORIOLE_DONE, VALUES(0, 0));
+    told("decide by no rule, default permit", pageoriole_decide(FIVE, NOTHING, PERMITS, 4, 0, 0, 0, 0, ANSWER), PAGEORIOLE_DONE, VALUES(1, 0));
+    told("decide, default permit", pageoriole_decide(FIVE, T1, PERMITS, 3, 0, 0, 0, 0, ANSWER), PAGEORIOLE_DONE, VALUES(0, 4));
+    turned("decide 4, default", pageoriole_decide(FIVE, T1, HERE(1, 1), 0, 0, 0, 0, 0, ANSWER), PAGEORIOLE_LENGTH);
+    turned("decide 50", pageoriole_decide(FIVE, T1, HERE(0), 0, 0, 0, 0, 0, ANSWER), PAGEORIOLE_DEFAULT);
+    turned("decide 8 before 50", pageoriole_decide(FIVE, BYTES(0, 5), HERE(0), 0, 0, 0, 0, 0, ANSWER), PAGEORIOLE_OUTSIDE);
+    told("decide, protocol 47", pageoriole_decide(PORT_ZERO, ALONE, ABSENT, 47, TEN, 0, TWENTY, 0, ANSWER), PAGEORIOLE_DONE, VALUES(1, 1));
+    told("decide 8", pageoriole_decide(FIVE, BYTES(0, 5), ABSENT, 0, 0, 0, 0, 0, ANSWER), PAGEORIOLE_OUTSIDE, VALUES(0));
+    told("decide 4", pageoriole_decide(rules, 26, ALONE, ABSENT, 0, 0, 0, 0, 0, ANSWER), PAGEORIOLE_LENGTH, VALUES(0));
 }
 
 static void put_record(uint8_t *record, size_t k) {
@@ -383,78 +501,115 @@ static void check_decide_flows(void) {
         put_record(made_flows + 13 * k, k);
         wanted[3 * k] = wanted[3 * k + 2] = flows[k].action;
     }
-    told("flows", pageoriole_decide_flows(ONE_RULE, ALONE, made_flows, sizeof made_flows, PLACE, ANSWER), PAGEORIOLE_DONE, VALUES(3 * FLOWS));
+    told("flows", pageoriole_decide_flows(ONE_RULE, ALONE, ABSENT, made_flows, sizeof made_flows, PLACE, ANSWER), PAGEORIOLE_DONE,
+         VALUES(3 * FLOWS));
     holds("flows", wanted, sizeof wanted);
-    told("flows by five rules", pageoriole_decide_flows(FIVE, T1, FLOWS_432, PLACE, ANSWER), PAGEORIOLE_DONE, VALUES(9));
+    told("flows by five rules", pageoriole_decide_flows(FIVE, T1, ABSENT, FLOWS_432, PLACE, ANSWER), PAGEORIOLE_DONE, VALUES(9));
     holds("flows by five rules", BYTES(1, 0, 3, 0, 0, 4, 0, 0, 0));
-    told("no flow", pageoriole_decide_flows(FIVE, T1, NOTHING, PLACE, ANSWER), PAGEORIOLE_DONE, VALUES(0));
+    told("flows, default permit", pageoriole_decide_flows(FIVE, T1, PERMITS, FLOWS_432, PLACE, ANSWER), PAGEORIOLE_DONE, VALUES(9));
+    holds("flows, default permit", BYTES(1, 0, 3, 0, 0, 4, 1, 0, 0));
+    turned("flows 4, default", pageoriole_decide_flows(FIVE, T1, true, NOTHING, FLOWS_432, PLACE, ANSWER), PAGEORIOLE_LENGTH);
+    turned("flows 50", pageoriole_decide_flows(FIVE, T1, HERE(0), BYTES(4), PLACE, ANSWER), PAGEORIOLE_DEFAULT);
+    holds("flows 50", NOTHING);
+    told("no flow", pageoriole_decide_flows(FIVE, T1, ABSENT, NOTHING, PLACE, ANSWER), PAGEORIOLE_DONE, VALUES(0));
     holds("no flow", NOTHING);
-    turned("flows 8", pageoriole_decide_flows(FIVE, BYTES(0, 5), BYTES(4), NOTHING, ANSWER), PAGEORIOLE_OUTSIDE);
-    turned("flows 4, rules", pageoriole_decide_flows(rules, 26, ALONE, FLOWS_432, PLACE, ANSWER), PAGEORIOLE_LENGTH);
-    turned("flows 4", pageoriole_decide_flows(FIVE, T1, BYTES(ZEROS), NOTHING, ANSWER), PAGEORIOLE_LENGTH);
+    turned("flows 8", pageoriole_decide_flows(FIVE, BYTES(0, 5), ABSENT, BYTES(4), NOTHING, ANSWER), PAGEORIOLE_OUTSIDE);
+    turned("flows 4, rules", pageoriole_decide_flows(rules, 26, ALONE, ABSENT, FLOWS_432, PLACE, ANSWER), PAGEORIOLE_LENGTH);
+    turned("flows 4", pageoriole_decide_flows(FIVE, T1, ABSENT, BYTES(ZEROS), NOTHING, ANSWER), PAGEORIOLE_LENGTH);
     holds("flows 4", NOTHING);
-    told("flows 13", pageoriole_decide_flows(FIVE, T1, FLOWS_432, place, 8, ANSWER), PAGEORIOLE_ROOM, VALUES(9));
+    told("flows 13", pageoriole_decide_flows(FIVE, T1, ABSENT, FLOWS_432, place, 8, ANSWER), PAGEORIOLE_ROOM, VALUES(9));
     holds("flows 13", NOTHING);
 }
 
 static void check_replay(void) {
-    told("replay", pageoriole_replay(FIVE, I1, SCRIPT_ONE, PLACE, ANSWER), PAGEORIOLE_DONE, VALUES(8));
+    told("replay", pageoriole_replay(FIVE, I1, ABSENT, SCRIPT_ONE, PLACE, ANSWER), PAGEORIOLE_DONE, VALUES(8));
     holds("replay", T1);
-    told("replay, insert behind the last", pageoriole_replay(THREE, BYTES(0, 0, 0, 1), BYTES(2, 3, 0, 3, 0, 2), PLACE, ANSWER), PAGEORIOLE_DONE,
-         VALUES(6));
+    told("replay, insert behind the last", pageoriole_replay(THREE, BYTES(0, 0, 0, 1), ABSENT, BYTES(2, 3, 0, 3, 0, 2), PLACE, ANSWER),
+         PAGEORIOLE_DONE, VALUES(6));
     holds("replay, insert behind the last", I3);
-    told("replay 20", pageoriole_replay(TWO, BYTES(0, 0, 0, 1), BYTES(1, 1, 0, 1, 0, 0), PLACE, ANSWER), PAGEORIOLE_PRESENT, VALUES(1));
+    told("replay 20", pageoriole_replay(TWO, BYTES(0, 0, 0, 1), ABSENT, BYTES(1, 1, 0, 1, 0, 0), PLACE, ANSWER), PAGEORIOLE_PRESENT, VALUES(1));
     holds("replay 20", NOTHING);
-    told("replay 21", pageoriole_replay(TWO, BYTES(0, 0), BYTES(1, 1, 0, 1, 0, 0, 2, 0, 0, 0, 0, 2, 0, 0, 0, 0), PLACE, ANSWER), PAGEORIOLE_ABSENT,
-         VALUES(3));
-    told("replay 22", pageoriole_replay(TWO, BYTES(0, 0, 0, 1), BYTES(2, 5, 0, 2, 0, 3), PLACE, ANSWER), PAGEORIOLE_PLACE, VALUES(1));
-    told("replay 23", pageoriole_replay(TWO, BYTES(0, 0), BYTES(1, 1, 0, 2, 0, 0), PLACE, ANSWER), PAGEORIOLE_NUMBER, VALUES(1));
-    told("replay 13", pageoriole_replay(FIVE, I1, SCRIPT_ONE, place, 7, ANSWER), PAGEORIOLE_ROOM, VALUES(8));
+    told("replay 21", pageoriole_replay(TWO, BYTES(0, 0), ABSENT, BYTES(1, 1, 0, 1, 0, 0, 2, 0, 0, 0, 0, 2, 0, 0, 0, 0), PLACE, ANSWER),
+         PAGEORIOLE_ABSENT, VALUES(3));
+    told("replay 22", pageoriole_replay(TWO, BYTES(0, 0, 0, 1), ABSENT, BYTES(2, 5, 0, 2, 0, 3), PLACE, ANSWER), PAGEORIOLE_PLACE, VALUES(1));
+    told("replay 23", pageoriole_replay(TWO, BYTES(0, 0), ABSENT, BYTES(1, 1, 0, 2, 0, 0), PLACE, ANSWER), PAGEORIOLE_NUMBER, VALUES(1));
+    told("replay 13", pageoriole_replay(FIVE, I1, ABSENT, SCRIPT_ONE, place, 7, ANSWER), PAGEORIOLE_ROOM, VALUES(8));
     holds("replay 13", NOTHING);
-    told("replay 9", pageoriole_replay(FIVE, BYTES(0, 1, 0, 1), SCRIPT_ONE, PLACE, ANSWER), PAGEORIOLE_TWICE, VALUES(0));
-    told("replay 11", pageoriole_replay(FIVE, I1, BYTES(9), PLACE, ANSWER), PAGEORIOLE_CODING, VALUES(0));
+    told("replay, default permit", pageoriole_replay(FIVE, I1, PERMITS, SCRIPT_ONE, PLACE, ANSWER), PAGEORIOLE_DONE, VALUES(8));
+    holds("replay, default permit", T1);
+    turned("replay 4, default", pageoriole_replay(FIVE, I1, HERE(1, 1), SCRIPT_ONE, PLACE, ANSWER), PAGEORIOLE_LENGTH);
+    turned("replay 50 before 11", pageoriole_replay(FIVE, I1, HERE(0), BYTES(9), PLACE, ANSWER), PAGEORIOLE_DEFAULT);
+    holds("replay 50 before 11", NOTHING);
+    told("replay 9", pageoriole_replay(FIVE, BYTES(0, 1, 0, 1), ABSENT, SCRIPT_ONE, PLACE, ANSWER), PAGEORIOLE_TWICE, VALUES(0));
+    told("replay 11", pageoriole_replay(FIVE, I1, ABSENT, BYTES(9), PLACE, ANSWER), PAGEORIOLE_CODING, VALUES(0));
     holds("replay 11", NOTHING);
 }
 
 static void check_plan(void) {
-    told("plan one", pageoriole_plan_one(FIVE, I1, T1, ABSENT, ABSENT, PLACE, ANSWER), PAGEORIOLE_DONE, VALUES(1, 6, 34));
+    told("plan one", pageoriole_plan_one(FIVE, I1, T1, ABSENT, ABSENT, ABSENT, PLACE, ANSWER), PAGEORIOLE_DONE, VALUES(1, 6, 34));
     holds("plan one", PLAN_ONE);
-    told("plan two", pageoriole_plan_two(FIVE, I1, T1, ABSENT, ABSENT, PLACE, ANSWER), PAGEORIOLE_DONE, VALUES(2, 3, 19));
+    told("plan two", pageoriole_plan_two(FIVE, I1, T1, ABSENT, ABSENT, ABSENT, PLACE, ANSWER), PAGEORIOLE_DONE, VALUES(2, 3, 19));
     holds("plan two", PLAN_TWO);
-    told("plan two, keep 0 1", pageoriole_plan_two(THREE, I3, T3, HERE(0, 0, 0, 1), ABSENT, PLACE, ANSWER), PAGEORIOLE_DONE, VALUES(2, 1, 9));
+    told("plan two, keep 0 1", pageoriole_plan_two(THREE, I3, T3, ABSENT, HERE(0, 0, 0, 1), ABSENT, PLACE, ANSWER), PAGEORIOLE_DONE,
+         VALUES(2, 1, 9));
     holds("plan two, keep 0 1", BYTES(5, 0, 6, 2, 5, 0, 3, 0, 1));
-    told("plan two, keep absent", pageoriole_plan_two(THREE, I3, T3, ABSENT, ABSENT, PLACE, ANSWER), PAGEORIOLE_DONE, VALUES(1, 2, 14));
+    told("plan two, keep absent", pageoriole_plan_two(THREE, I3, T3, ABSENT, ABSENT, ABSENT, PLACE, ANSWER), PAGEORIOLE_DONE, VALUES(1, 2, 14));
     holds("plan two, keep absent", BYTES(5, 0, 11, 2, 5, 0, 2, 0, 3, 5, 0, 1, 0, 2));
-    told("plan two, keep empty", pageoriole_plan_two(TWO, BYTES(0, 0, 0, 1), BYTES(0, 1, 0, 0), true, NOTHING, ABSENT, PLACE, ANSWER),
+    told("plan two, keep empty", pageoriole_plan_two(TWO, BYTES(0, 0, 0, 1), BYTES(0, 1, 0, 0), ABSENT, true, NOTHING, ABSENT, PLACE, ANSWER),
          PAGEORIOLE_DONE, VALUES(0, 1, 9));
     holds("plan two, keep empty", BYTES(5, 0, 6, 2, 5, 0, 2, 0, 1));
-    told("plan one, I = T", pageoriole_plan_one(FIVE, I1, I1, ABSENT, ABSENT, PLACE, ANSWER), PAGEORIOLE_DONE, VALUES(4, 0, 4));
+    told("plan one, I = T", pageoriole_plan_one(FIVE, I1, I1, ABSENT, ABSENT, ABSENT, PLACE, ANSWER), PAGEORIOLE_DONE, VALUES(4, 0, 4));
     holds("plan one, I = T", BYTES(5, 0, 1, 1));
-    told("plan two, both empty", pageoriole_plan_two(NOTHING, NOTHING, NOTHING, ABSENT, ABSENT, PLACE, ANSWER), PAGEORIOLE_DONE, VALUES(0, 0, 4));
+    told("plan two, both empty", pageoriole_plan_two(NOTHING, NOTHING, NOTHING, ABSENT, ABSENT, ABSENT, PLACE, ANSWER), PAGEORIOLE_DONE,
+         VALUES(0, 0, 4));
     holds("plan two, both empty", BYTES(5, 0, 1, 2));
-    told("plan one 11", pageoriole_plan_one(FIVE, I1, T1, ABSENT, HERE(3), PLACE, ANSWER), PAGEORIOLE_CODING, VALUES(0));
+    told("plan one 11", pageoriole_plan_one(FIVE, I1, T1, ABSENT, ABSENT, HERE(3), PLACE, ANSWER), PAGEORIOLE_CODING, VALUES(0));
     holds("plan one 11", NOTHING);
-    told("plan two 10", pageoriole_plan_two(THREE, I3, T3, HERE(0, 1, 0, 0), ABSENT, PLACE, ANSWER), PAGEORIOLE_KEEP, VALUES(0));
-    told("plan one 13", pageoriole_plan_one(FIVE, I1, T1, ABSENT, ABSENT, place, 33, ANSWER), PAGEORIOLE_ROOM, VALUES(34));
+    told("plan two 10", pageoriole_plan_two(THREE, I3, T3, ABSENT, HERE(0, 1, 0, 0), ABSENT, PLACE, ANSWER), PAGEORIOLE_KEEP, VALUES(0));
+    told("plan one 13", pageoriole_plan_one(FIVE, I1, T1, ABSENT, ABSENT, ABSENT, place, 33, ANSWER), PAGEORIOLE_ROOM, VALUES(34));
     holds("plan one 13", NOTHING);
-    told("plan two 13", pageoriole_plan_two(FIVE, I1, T1, ABSENT, ABSENT, NULL, 0, ANSWER), PAGEORIOLE_ROOM, VALUES(19));
+    told("plan two 13", pageoriole_plan_two(FIVE, I1, T1, ABSENT, ABSENT, ABSENT, NULL, 0, ANSWER), PAGEORIOLE_ROOM, VALUES(19));
 }
 
 static void check_judge(void) {
-    told("judge 31, first example", pageoriole_judge(FIVE, I1, T1, ABSENT, SCRIPT_ONE, ANSWER), PAGEORIOLE_NOT_FULL, NULL, 0);
-    told("judge 32, first example", pageoriole_judge(FIVE, I1, T1, ABSENT, SCRIPT_TWO, ANSWER), PAGEORIOLE_SAFE, NULL, 0);
-    told("judge 31, a hole", pageoriole_judge(TWO, BYTES(0, 0), BYTES(0, 1), ABSENT, BYTES(2, 4, 0, 1, 0, 0, 3, 0, 1, 0, 1), ANSWER),
+    told("judge 31, first example", pageoriole_judge(FIVE, I1, T1, ABSENT, ABSENT, SCRIPT_ONE, ANSWER), PAGEORIOLE_NOT_FULL, NULL, 0);
+    told("judge 32, first example", pageoriole_judge(FIVE, I1, T1, ABSENT, ABSENT, SCRIPT_TWO, ANSWER), PAGEORIOLE_SAFE, NULL, 0);
+    told("judge 31, a hole", pageoriole_judge(TWO, BYTES(0, 0), BYTES(0, 1), ABSENT, ABSENT, BYTES(2, 4, 0, 1, 0, 0, 3, 0, 1, 0, 1), ANSWER),
          PAGEORIOLE_NOT_FULL, NULL, 0);
-    told("judge 32, both empty", pageoriole_judge(NOTHING, NOTHING, NOTHING, true, NOTHING, BYTES(1), ANSWER), PAGEORIOLE_SAFE, NULL, 0);
-    told("judge 30", pageoriole_judge(FIVE, I1, T30, ABSENT, SCRIPT_30, ANSWER), PAGEORIOLE_UNORDERED, VALUES(1, 2));
-    told("judge 24", pageoriole_judge(FIVE, I1, T30, ABSENT, SCRIPT_TWO, ANSWER), PAGEORIOLE_ELSEWHERE, VALUES(3));
-    told("judge 20", pageoriole_judge(TWO, BYTES(0, 0), BYTES(0, 1), ABSENT, BYTES(2, 3, 0, 1, 0, 0), ANSWER), PAGEORIOLE_PRESENT, VALUES(1));
-    told("judge 21", pageoriole_judge(TWO, BYTES(0, 0), BYTES(0, 1), ABSENT, BYTES(1, 1, 0, 1, 0, 0, 2, 0, 0, 0, 0, 2, 0, 0, 0, 0), ANSWER),
+    told("judge 32, both empty", pageoriole_judge(NOTHING, NOTHING, NOTHING, ABSENT, true, NOTHING, BYTES(1), ANSWER), PAGEORIOLE_SAFE, NULL, 0);
+    told("judge 30", pageoriole_judge(FIVE, I1, T30, ABSENT, ABSENT, SCRIPT_30, ANSWER), PAGEORIOLE_UNORDERED, VALUES(1, 2));
+    told("judge 24", pageoriole_judge(FIVE, I1, T30, ABSENT, ABSENT, SCRIPT_TWO, ANSWER), PAGEORIOLE_ELSEWHERE, VALUES(3));
+    told("judge 20", pageoriole_judge(TWO, BYTES(0, 0), BYTES(0, 1), ABSENT, ABSENT, BYTES(2, 3, 0, 1, 0, 0), ANSWER), PAGEORIOLE_PRESENT,
+         VALUES(1));
+    told("judge 21",
+         pageoriole_judge(TWO, BYTES(0, 0), BYTES(0, 1), ABSENT, ABSENT, BYTES(1, 1, 0, 1, 0, 0, 2, 0, 0, 0, 0, 2, 0, 0, 0, 0), ANSWER),
          PAGEORIOLE_ABSENT, VALUES(3));
-    told("judge 22", pageoriole_judge(TWO, BYTES(0, 0, 0, 1), BYTES(0, 1), ABSENT, BYTES(2, 5, 0, 2, 0, 3), ANSWER), PAGEORIOLE_PLACE, VALUES(1));
-    told("judge 23", pageoriole_judge(TWO, BYTES(0, 0), BYTES(0, 1), ABSENT, BYTES(1, 1, 0, 2, 0, 0), ANSWER), PAGEORIOLE_NUMBER, VALUES(1));
-    told("judge 10", pageoriole_judge(THREE, I3, T3, HERE(0, 1, 0, 0), SCRIPT_TWO, ANSWER), PAGEORIOLE_KEEP, VALUES(0));
-    told("judge 4", pageoriole_judge(THREE, I3, T3, ABSENT, NOTHING, ANSWER), PAGEORIOLE_LENGTH, VALUES(0));
+    told("judge 22", pageoriole_judge(TWO, BYTES(0, 0, 0, 1), BYTES(0, 1), ABSENT, ABSENT, BYTES(2, 5, 0, 2, 0, 3), ANSWER), PAGEORIOLE_PLACE,
+         VALUES(1));
+    told("judge 23", pageoriole_judge(TWO, BYTES(0, 0), BYTES(0, 1), ABSENT, ABSENT, BYTES(1, 1, 0, 2, 0, 0), ANSWER), PAGEORIOLE_NUMBER,
+         VALUES(1));
+    told("judge 10", pageoriole_judge(THREE, I3, T3, ABSENT, HERE(0, 1, 0, 0), SCRIPT_TWO, ANSWER), PAGEORIOLE_KEEP, VALUES(0));
+    told("judge 4", pageoriole_judge(THREE, I3, T3, ABSENT, ABSENT, NOTHING, ANSWER), PAGEORIOLE_LENGTH, VALUES(0));
+}
+
+/* Plans and verdicts under default permit: those under default deny. */
+static void check_plan_default(void) {
+    told("plan one, default permit", pageoriole_plan_one(FIVE, I1, T1, PERMITS, ABSENT, ABSENT, PLACE, ANSWER), PAGEORIOLE_DONE,
+         VALUES(1, 6, 34));
+    holds("plan one, default permit", PLAN_ONE);
+    told("plan two, default permit", pageoriole_plan_two(FIVE, I1, T1, PERMITS, ABSENT, ABSENT, PLACE, ANSWER), PAGEORIOLE_DONE,
+         VALUES(2, 3, 19));
+    holds("plan two, default permit", PLAN_TWO);
+    turned("plan one 4, default", pageoriole_plan_one(FIVE, I1, T1, true, NOTHING, ABSENT, ABSENT, PLACE, ANSWER), PAGEORIOLE_LENGTH);
+    turned("plan two 4, default", pageoriole_plan_two(FIVE, I1, T1, HERE(1, 1), ABSENT, ABSENT, PLACE, ANSWER), PAGEORIOLE_LENGTH);
+    turned("plan one 50", pageoriole_plan_one(FIVE, I1, T1, HERE(0), ABSENT, ABSENT, PLACE, ANSWER), PAGEORIOLE_DEFAULT);
+    holds("plan one 50", NOTHING);
+    turned("plan two 50", pageoriole_plan_two(FIVE, I1, T1, HERE(2), ABSENT, ABSENT, PLACE, ANSWER), PAGEORIOLE_DEFAULT);
+    holds("plan two 50", NOTHING);
+    told("judge 31, default permit", pageoriole_judge(FIVE, I1, T1, PERMITS, ABSENT, SCRIPT_ONE, ANSWER), PAGEORIOLE_NOT_FULL, NULL, 0);
+    told("judge 32, default permit", pageoriole_judge(FIVE, I1, T1, PERMITS, ABSENT, SCRIPT_TWO, ANSWER), PAGEORIOLE_SAFE, NULL, 0);
+    turned("judge 4, default", pageoriole_judge(FIVE, I1, T1, true, NOTHING, ABSENT, SCRIPT_TWO, ANSWER), PAGEORIOLE_LENGTH);
+    turned("judge 50 before 10", pageoriole_judge(THREE, I3, T3, HERE(0), HERE(0, 1, 0, 0), SCRIPT_TWO, ANSWER), PAGEORIOLE_DEFAULT);
 }
 
 /* ---- what the header adds to the functions ---- */
@@ -498,6 +653,34 @@ static void check_struct(void) {
     passes("struct, no keep list", pageoriole_check_values(&v, ANSWER));
 }
 
+/* The same with a default, which every function on a struct passes on. */
+static void check_struct_default(void) {
+    static const uint8_t permit[] = {1}, deny[] = {0}, script[] = {2, 5, 0, 3, 0, 1};
+    struct pageoriole_values v = three_values();
+    v.has_default = true, v.default_value = permit, v.default_size = 1;
+    v.has_script = true, v.script = script, v.script_size = sizeof script;
+    passes("struct, a default", pageoriole_check_values(&v, ANSWER));
+    told("struct, write a default", pageoriole_write_values(&v, PLACE, ANSWER), PAGEORIOLE_DONE, VALUES(128));
+    catalogue(3);
+    field(2, I3);
+    field(3, T3);
+    field(6, BYTES(1));
+    field(4, BYTES(0, 0, 0, 1));
+    field(5, script, sizeof script);
+    holds("struct, write a default", FILE_MADE);
+    v.default_value = deny;
+    turned("struct, check 50", pageoriole_check_values(&v, ANSWER), PAGEORIOLE_DEFAULT);
+    turned("struct, write 50", pageoriole_write_values(&v, PLACE, ANSWER), PAGEORIOLE_DEFAULT);
+    turned("struct, plan one 50", pageoriole_plan_one_values(&v, PLACE, ANSWER), PAGEORIOLE_DEFAULT);
+    turned("struct, plan two 50", pageoriole_plan_two_values(&v, PLACE, ANSWER), PAGEORIOLE_DEFAULT);
+    turned("struct, judge 50", pageoriole_judge_values(&v, ANSWER), PAGEORIOLE_DEFAULT);
+    turned("struct, replay 50", pageoriole_replay_values(&v, PLACE, ANSWER), PAGEORIOLE_DEFAULT);
+    v.default_size = 0;
+    turned("struct, default of no byte", pageoriole_check_values(&v, ANSWER), PAGEORIOLE_LENGTH);
+    v.has_default = false;
+    passes("struct, no default", pageoriole_check_values(&v, ANSWER));
+}
+
 /* The rule of ONE_RULE by the names of its bytes. */
 static void put_one_rule(uint8_t *rule) {
     pageoriole_put(rule + PAGEORIOLE_RULE_ACTION, PAGEORIOLE_ACTION_WIDTH, PAGEORIOLE_PERMIT);
@@ -536,33 +719,42 @@ static void check_names(void) {
     expect("a decision by names", "the action", pageoriole_get(decision + PAGEORIOLE_DECISION_ACTION, PAGEORIOLE_ACTION_WIDTH), 1);
     expect("a decision by names", "the place", pageoriole_get(decision + PAGEORIOLE_DECISION_PLACE, PAGEORIOLE_PLACE_WIDTH), 515);
     expect("values", "of 13", pageoriole_values_of(13), 1);
+    expect("values", "of 50", pageoriole_values_of(50), 1);
     expect("values", "of 30", pageoriole_values_of(30), 2);
     expect("values", "of 32", pageoriole_values_of(32), 0);
     expect("turned away", "by 13", pageoriole_turned_away(13), true);
+    expect("turned away", "by 50", pageoriole_turned_away(50), true);
     expect("turned away", "by 0", pageoriole_turned_away(0), false);
     expect("turned away", "by 20", pageoriole_turned_away(20), false);
     expect("sentences", "of 0", pageoriole_says(0)[0], 'd');
+    expect("tags", "of a default", PAGEORIOLE_DEFAULT_TAG, 6);
     expect("sentences", "of 25 and 26 differing", pageoriole_says(25) != pageoriole_says(26), false);
 }
 
 int main(void) {
     make_rules();
     check_read();
+    check_read_default();
     check_decide_file();
     check_decide_flows_file();
     check_replay_file();
     check_plan_file();
     check_judge_file();
+    check_default_file();
     check_text();
     check_show_text();
     check_check();
+    check_check_default();
     check_write();
+    check_write_default();
     check_decide();
     check_decide_flows();
     check_replay();
     check_plan();
     check_judge();
+    check_plan_default();
     check_struct();
+    check_struct_default();
     check_names();
     printf("%u checks, %u wrong\n", checks, wrong);
     return wrong == 0 ? 0 : 1;

@@ -17,8 +17,8 @@
  *
  * Answers. Each function returns a number: PAGEORIOLE_DONE, a refusal, a fault or a verdict; pageoriole_says gives its sentence. The values
  * that belong to it are stored in the first words of `answer`, as many as have room; all other words keep what they held. A room of
- * PAGEORIOLE_ANSWER words is always enough. A refusal (1 to 13) has one value, its position: a byte of the file, 0 where field values were
- * lent, or, of 13, the bytes needed.
+ * PAGEORIOLE_ANSWER words is always enough. A refusal (1 to 13, and 50) has one value, its position: a byte of the file, 0 where field values
+ * were lent, or, of 13, the bytes needed.
  *
  * Places. What is written fills the first bytes of `place`; the others keep theirs. When a call is turned away or breaks off, all do.
  *
@@ -26,8 +26,8 @@
  * the value without the head. pageoriole_take_script makes the step between.
  *
  * Stack. A call touches at most PAGEORIOLE_STACK bytes, and pageoriole_plan_text at most PAGEORIOLE_STACK_TEXT. This is measured and not
- * proved: c/stack.c runs every function on the largest inputs and fails above these. It finds 30,216 bytes (pageoriole_replay_file), and
- * 35,544 for pageoriole_plan_text.
+ * proved: c/stack.c runs every function on the largest inputs and fails above these. It finds 30,248 bytes (pageoriole_replay_file), and
+ * 35,592 for pageoriole_plan_text.
  */
 #ifndef PAGEORIOLE_H
 #define PAGEORIOLE_H
@@ -41,7 +41,7 @@ extern "C" {
 #endif
 
 /* The version of this header and of the library that it belongs to. */
-#define PAGEORIOLE_VERSION "1.0.0"
+#define PAGEORIOLE_VERSION "2.0.0"
 
 /* ---- Numbers that are returned ---- */
 
@@ -60,7 +60,8 @@ extern "C" {
     ROW(PAGEORIOLE_KEEP, 10, 1, "the keep list doesn't occur in order in both policies")                                                       \
     ROW(PAGEORIOLE_CODING, 11, 1, "a script's type, a code or an unused number is wrong")                                                      \
     ROW(PAGEORIOLE_NO_SCRIPT, 12, 1, "there is no script in the file")                                                                         \
-    ROW(PAGEORIOLE_ROOM, 13, 1, "the lent place is too small")
+    ROW(PAGEORIOLE_ROOM, 13, 1, "the lent place is too small")                                                                                 \
+    ROW(PAGEORIOLE_DEFAULT, 50, 1, "the default isn't 1, which means permit")
 
 /* A command fails; the value is its step, counted from 1. */
 #define PAGEORIOLE_FAULTS(ROW)                                                                                                                 \
@@ -69,11 +70,13 @@ extern "C" {
     ROW(PAGEORIOLE_PLACE, 22, 1, "a command names a place that the list doesn't have")                                                         \
     ROW(PAGEORIOLE_NUMBER, 23, 1, "a command names a rule that isn't in the catalogue")
 
-/* Verdicts on a script that runs through; the value of 24 is its number of commands, those of 30 are step and place. */
+/* Verdicts on a script that runs through; the value of 24 is its number of commands, those of 30 are step and place. What 31 says under each
+ * default stands at "Field values". */
 #define PAGEORIOLE_VERDICTS(ROW)                                                                                                               \
     ROW(PAGEORIOLE_ELSEWHERE, 24, 1, "all commands pass, but the last list isn't the target")                                                  \
     ROW(PAGEORIOLE_UNORDERED, 30, 2, "a list on the way isn't ordered, so safety isn't shown")                                                 \
-    ROW(PAGEORIOLE_NOT_FULL, 31, 0, "no flow that both policies deny is ever permitted, but a permitted flow may be cut off for a while")      \
+    ROW(PAGEORIOLE_NOT_FULL, 31, 0,                                                                                                            \
+        "a flow to which both policies give the default's action never gets the other; any other flow may get the default for a while")        \
     ROW(PAGEORIOLE_SAFE, 32, 0, "safe: at every step each flow is decided as one of the two policies decides it")
 
 /* All of them. DONE has the values that its function names. */
@@ -131,6 +134,9 @@ enum pageoriole_read_word {
     PAGEORIOLE_READ_INITIAL_SIZE,
     PAGEORIOLE_READ_TARGET_START,
     PAGEORIOLE_READ_TARGET_SIZE,
+    PAGEORIOLE_READ_HAS_DEFAULT,   /* 1 if there is a default, so permit, or 0 */
+    PAGEORIOLE_READ_DEFAULT_START,
+    PAGEORIOLE_READ_DEFAULT_SIZE,
     PAGEORIOLE_READ_HAS_KEEP,      /* 1 if there is a keep list, or 0 */
     PAGEORIOLE_READ_KEEP_START,
     PAGEORIOLE_READ_KEEP_SIZE,
@@ -151,7 +157,7 @@ enum pageoriole_word {
     PAGEORIOLE_WRITTEN_BYTES = 0,  /* DONE of what writes a file, a list, decisions or a text: how many bytes */
     PAGEORIOLE_DECIDED_ACTION = 0, /* DONE of what decides one flow: its action */
     PAGEORIOLE_DECIDED_PLACE = 1,  /* and the place of the rule that decides, 0 for the default */
-    PAGEORIOLE_REFUSED_AT = 0,     /* 1 to 13: the position, or the bytes needed */
+    PAGEORIOLE_REFUSED_AT = 0,     /* 1 to 13, and 50: the position, or the bytes needed */
     PAGEORIOLE_FAULT_STEP = 0,     /* 20 to 23, and 30: the step */
     PAGEORIOLE_FAULT_PLACE = 1     /* 30: the place */
 };
@@ -159,11 +165,11 @@ enum pageoriole_word {
 /* ---- Limits ---- */
 
 enum pageoriole_limit {
-    PAGEORIOLE_ANSWER = 11,      /* words: the most values that belong to a number */
+    PAGEORIOLE_ANSWER = 14,      /* words: the most values that belong to a number */
     PAGEORIOLE_RULES = 1024,     /* rules in a catalogue */
     PAGEORIOLE_LISTED = 512,     /* rules in a policy */
     PAGEORIOLE_COMMANDS = 2048,  /* commands in a script */
-    PAGEORIOLE_FILE = 44045,     /* bytes: the longest file that is accepted, so the longest that is written */
+    PAGEORIOLE_FILE = 44049,     /* bytes: the longest file that is accepted, so the longest that is written */
     PAGEORIOLE_PLAN = 5124,      /* bytes: the longest script field that a planner writes */
     PAGEORIOLE_LIST = 2048,      /* bytes: the longest list that a replay writes */
     PAGEORIOLE_TEXT = 65536,     /* bytes: no text of pageoriole_plan_text or pageoriole_judge_text is longer */
@@ -174,15 +180,17 @@ enum pageoriole_limit {
 
 /* ---- Bytes: docs/FORMAT.md, "The deployment file" ---- */
 
-/* A field: tag, two bytes of length, value. */
+/* A field: tag, two bytes of length, value. In a file the tags stand in the order 1, 2, 3, 6, 4, 5. */
 enum pageoriole_tag {
     PAGEORIOLE_RULE_TAG = 1,
     PAGEORIOLE_INITIAL_TAG = 2,
     PAGEORIOLE_TARGET_TAG = 3,
     PAGEORIOLE_KEEP_TAG = 4,
-    PAGEORIOLE_SCRIPT_TAG = 5
+    PAGEORIOLE_SCRIPT_TAG = 5,
+    PAGEORIOLE_DEFAULT_TAG = 6
 };
 
+/* Of a rule, of a decision, and PAGEORIOLE_PERMIT of a default: deny is an absent one. */
 enum pageoriole_action { PAGEORIOLE_DENY = 0, PAGEORIOLE_PERMIT = 1 };
 
 /* The first byte of a script. */
@@ -199,7 +207,7 @@ enum pageoriole_code {
 
 /* Widths in bytes. */
 enum pageoriole_width {
-    PAGEORIOLE_ACTION_WIDTH = 1,
+    PAGEORIOLE_ACTION_WIDTH = 1, /* of a rule, of a decision and of a default */
     PAGEORIOLE_PROTOCOL_WIDTH = 1,
     PAGEORIOLE_ADDRESS_WIDTH = 4,
     PAGEORIOLE_PORT_WIDTH = 2,
@@ -259,10 +267,15 @@ static inline void pageoriole_put(uint8_t *bytes, size_t width, uint32_t number)
 /* The values of the fields of a deployment file.
  *   rules        27 bytes a rule, one behind the other, without the fields' heads
  *   initial, target, keep   two-byte rule numbers, big-endian
+ *   default_value   one byte, PAGEORIOLE_PERMIT
  *   script       a type byte, then five bytes a command
+ * The default is what a flow gets that no rule of a policy matches. Both policies have the same, and no command changes it: permit if it is there,
+ * deny if it is absent (`has_default` false). Only decisions depend on it. Plans and verdicts are the same under either; what verdict 31 promises
+ * isn't: under default deny, no flow that both policies deny is ever permitted, but one that both permit may be denied for a while; under default
+ * permit, no flow that both policies permit is ever denied, but one that both deny may be permitted for a while.
  * A keep list that is there and empty keeps nothing; an absent one (`has_keep` false) asks for the planner's own choice. What is lent for an
- * absent keep list or an absent script isn't looked at. Tests go in this order: 4, 7, 5, 6 for the rules; 4, 8, 9 for the initial policy and
- * for the target; 4, 10 for the keep list; 4, 11 for the script; all at position 0; and last 13.
+ * absent default, keep list or script isn't looked at. Tests go in this order: 4, 7, 5, 6 for the rules; 4, 8, 9 for the initial policy and for
+ * the target; 4, 50 for the default; 4, 10 for the keep list; 4, 11 for the script; all at position 0; and last 13.
  *
  * The functions whose names end in _values, at the end of this header, take them as one struct. Set one to all zero and fill in what there is. */
 struct pageoriole_values {
@@ -272,6 +285,9 @@ struct pageoriole_values {
     size_t initial_size;
     const uint8_t *target;
     size_t target_size;
+    bool has_default;
+    const uint8_t *default_value;
+    size_t default_size;
     bool has_keep;
     const uint8_t *keep;
     size_t keep_size;
@@ -282,85 +298,93 @@ struct pageoriole_values {
 
 /* ---- Reading and writing ---- */
 
-/* Reads a deployment file. DONE: 11 values, see enum pageoriole_read_word. The rules stand from the file's first byte on, each with its
- * field's head. Refusals: 1 to 11. */
+/* Reads a deployment file. DONE: 14 values, see enum pageoriole_read_word. The rules stand from the file's first byte on, each with its
+ * field's head. Refusals: 1 to 11, 50. */
 uint32_t pageoriole_read(const uint8_t *file, size_t file_size, uint64_t *answer, size_t answer_words);
 
 /* The same, and a file without a script is turned away: 12, at the file's length. */
 uint32_t pageoriole_read_to_judge(const uint8_t *file, size_t file_size, uint64_t *answer, size_t answer_words);
 
-/* Whether field values pass. DONE: no value. Refusals: 4 to 11. */
+/* Whether field values pass. DONE: no value. Refusals: 4 to 11, 50. */
 uint32_t pageoriole_check(const uint8_t *rules, size_t rules_size, const uint8_t *initial, size_t initial_size, const uint8_t *target,
-                          size_t target_size, bool has_keep, const uint8_t *keep, size_t keep_size, bool has_script, const uint8_t *script,
-                          size_t script_size, uint64_t *answer, size_t answer_words);
+                          size_t target_size, bool has_default, const uint8_t *default_value, size_t default_size, bool has_keep,
+                          const uint8_t *keep, size_t keep_size, bool has_script, const uint8_t *script, size_t script_size, uint64_t *answer,
+                          size_t answer_words);
 
-/* Writes the deployment file of field values into `place`. DONE: the bytes written. Refusals: 4 to 11, 13. */
+/* Writes the deployment file of field values into `place`. DONE: the bytes written. Refusals: 4 to 11, 50; 13 last. */
 uint32_t pageoriole_write(const uint8_t *rules, size_t rules_size, const uint8_t *initial, size_t initial_size, const uint8_t *target,
-                          size_t target_size, bool has_keep, const uint8_t *keep, size_t keep_size, bool has_script, const uint8_t *script,
-                          size_t script_size, uint8_t *place, size_t place_size, uint64_t *answer, size_t answer_words);
+                          size_t target_size, bool has_default, const uint8_t *default_value, size_t default_size, bool has_keep,
+                          const uint8_t *keep, size_t keep_size, bool has_script, const uint8_t *script, size_t script_size, uint8_t *place,
+                          size_t place_size, uint64_t *answer, size_t answer_words);
 
 /* ---- Deciding flows ---- */
 
 /* Decides a flow by a policy of the file: the target if `of_target`, or else the initial one. DONE: the action, and the place of the first
- * rule that matches, counted from 1; deny and 0 if none does. Refusals: 1 to 11. */
+ * rule that matches, counted from 1; the default and 0 if none does. Refusals: 1 to 11, 50. */
 uint32_t pageoriole_decide_file(const uint8_t *file, size_t file_size, bool of_target, uint8_t protocol, uint32_t source, uint16_t source_port,
                                 uint32_t destination, uint16_t destination_port, uint64_t *answer, size_t answer_words);
 
-/* The same by a policy over rules, as field values. Refusals: 4, 7, 5, 6 for the rules, 4, 8, 9 for the policy. */
-uint32_t pageoriole_decide(const uint8_t *rules, size_t rules_size, const uint8_t *policy, size_t policy_size, uint8_t protocol, uint32_t source,
-                           uint16_t source_port, uint32_t destination, uint16_t destination_port, uint64_t *answer, size_t answer_words);
+/* The same by a policy over rules, as field values. Refusals: 4, 7, 5, 6 for the rules, 4, 8, 9 for the policy, 4, 50 for its default. */
+uint32_t pageoriole_decide(const uint8_t *rules, size_t rules_size, const uint8_t *policy, size_t policy_size, bool has_default,
+                           const uint8_t *default_value, size_t default_size, uint8_t protocol, uint32_t source, uint16_t source_port,
+                           uint32_t destination, uint16_t destination_port, uint64_t *answer, size_t answer_words);
 
 /* Decides many flows by a policy of the file, which is read once. `flows` are records of PAGEORIOLE_FLOW bytes (enum pageoriole_flow_byte); for
  * each, PAGEORIOLE_DECISION bytes are written into `place`, in the same order: the action, and two bytes of place. DONE: the bytes written.
- * Refusals: 1 to 11; then 4 at 0 if the flows aren't whole records; 13 last. */
+ * Refusals: 1 to 11, 50; then 4 at 0 if the flows aren't whole records; 13 last. */
 uint32_t pageoriole_decide_flows_file(const uint8_t *file, size_t file_size, bool of_target, const uint8_t *flows, size_t flows_size,
                                       uint8_t *place, size_t place_size, uint64_t *answer, size_t answer_words);
 
 /* The same by a policy over rules, as field values, which are tested once. Refusals: those of pageoriole_decide; then 4 at 0 if the flows aren't
  * whole records; 13 last. */
-uint32_t pageoriole_decide_flows(const uint8_t *rules, size_t rules_size, const uint8_t *policy, size_t policy_size, const uint8_t *flows,
-                                 size_t flows_size, uint8_t *place, size_t place_size, uint64_t *answer, size_t answer_words);
+uint32_t pageoriole_decide_flows(const uint8_t *rules, size_t rules_size, const uint8_t *policy, size_t policy_size, bool has_default,
+                                 const uint8_t *default_value, size_t default_size, const uint8_t *flows, size_t flows_size, uint8_t *place,
+                                 size_t place_size, uint64_t *answer, size_t answer_words);
 
 /* ---- Replaying a script ---- */
 
 /* Replays the script of the file from its initial policy and writes the last list, two bytes a rule, into `place`. DONE: the bytes written.
- * 20 to 23: the step of the command that fails. Refusals: 1 to 13. */
+ * 20 to 23: the step of the command that fails. Refusals: 1 to 12, 50; 13 last. */
 uint32_t pageoriole_replay_file(const uint8_t *file, size_t file_size, uint8_t *place, size_t place_size, uint64_t *answer, size_t answer_words);
 
-/* The same from field values. Refusals: 4, 7, 5, 6 for the rules, 4, 8, 9 for the policy, 4, 11 for the script, 13. */
-uint32_t pageoriole_replay(const uint8_t *rules, size_t rules_size, const uint8_t *initial, size_t initial_size, const uint8_t *script,
-                           size_t script_size, uint8_t *place, size_t place_size, uint64_t *answer, size_t answer_words);
+/* The same from field values. Refusals: 4, 7, 5, 6 for the rules, 4, 8, 9 for the policy, 4, 50 for its default, 4, 11 for the script, 13. */
+uint32_t pageoriole_replay(const uint8_t *rules, size_t rules_size, const uint8_t *initial, size_t initial_size, bool has_default,
+                           const uint8_t *default_value, size_t default_size, const uint8_t *script, size_t script_size, uint8_t *place,
+                           size_t place_size, uint64_t *answer, size_t answer_words);
 
 /* ---- Planning ---- */
 
 /* Plans the script from the initial policy of the file to its target, by append and delete (type 1), and writes it into `place` as a script
  * field, head and value. DONE: rules kept, commands, bytes written (enum pageoriole_planned_word). A script in the file is checked and not used.
- * Refusals: 1 to 11, 13. */
+ * Refusals: 1 to 11, 50; 13 last. */
 uint32_t pageoriole_plan_one_file(const uint8_t *file, size_t file_size, uint8_t *place, size_t place_size, uint64_t *answer, size_t answer_words);
 
 /* The same by insert, delete and move (type 2), with the keep list of the file. */
 uint32_t pageoriole_plan_two_file(const uint8_t *file, size_t file_size, uint8_t *place, size_t place_size, uint64_t *answer, size_t answer_words);
 
-/* The same from field values, type 1. Refusals: 4 to 11, 13. */
+/* The same from field values, type 1. Refusals: 4 to 11, 50; 13 last. */
 uint32_t pageoriole_plan_one(const uint8_t *rules, size_t rules_size, const uint8_t *initial, size_t initial_size, const uint8_t *target,
-                             size_t target_size, bool has_keep, const uint8_t *keep, size_t keep_size, bool has_script, const uint8_t *script,
-                             size_t script_size, uint8_t *place, size_t place_size, uint64_t *answer, size_t answer_words);
+                             size_t target_size, bool has_default, const uint8_t *default_value, size_t default_size, bool has_keep,
+                             const uint8_t *keep, size_t keep_size, bool has_script, const uint8_t *script, size_t script_size, uint8_t *place,
+                             size_t place_size, uint64_t *answer, size_t answer_words);
 
 /* The same from field values, type 2. */
 uint32_t pageoriole_plan_two(const uint8_t *rules, size_t rules_size, const uint8_t *initial, size_t initial_size, const uint8_t *target,
-                             size_t target_size, bool has_keep, const uint8_t *keep, size_t keep_size, bool has_script, const uint8_t *script,
-                             size_t script_size, uint8_t *place, size_t place_size, uint64_t *answer, size_t answer_words);
+                             size_t target_size, bool has_default, const uint8_t *default_value, size_t default_size, bool has_keep,
+                             const uint8_t *keep, size_t keep_size, bool has_script, const uint8_t *script, size_t script_size, uint8_t *place,
+                             size_t place_size, uint64_t *answer, size_t answer_words);
 
 /* ---- Judging a script ---- */
 
 /* Judges the script of the file, from its initial policy to its target. Never DONE: a verdict with its values, or 20 to 23 with the step.
- * Refusals: 1 to 12. */
+ * Refusals: 1 to 12, 50. */
 uint32_t pageoriole_judge_file(const uint8_t *file, size_t file_size, uint64_t *answer, size_t answer_words);
 
-/* The same from field values. Refusals: 4 to 11. */
+/* The same from field values. Refusals: 4 to 11, 50. */
 uint32_t pageoriole_judge(const uint8_t *rules, size_t rules_size, const uint8_t *initial, size_t initial_size, const uint8_t *target,
-                          size_t target_size, bool has_keep, const uint8_t *keep, size_t keep_size, const uint8_t *script, size_t script_size,
-                          uint64_t *answer, size_t answer_words);
+                          size_t target_size, bool has_default, const uint8_t *default_value, size_t default_size, bool has_keep,
+                          const uint8_t *keep, size_t keep_size, const uint8_t *script, size_t script_size, uint64_t *answer,
+                          size_t answer_words);
 
 /* ---- Texts ---- */
 
@@ -371,7 +395,7 @@ uint32_t pageoriole_plan_text(const uint8_t *file, size_t file_size, uint8_t *pl
 /* What `judgelist` prints for the file: the verdict's line, or the refusal's. */
 uint32_t pageoriole_judge_text(const uint8_t *file, size_t file_size, uint8_t *place, size_t place_size, uint64_t *answer, size_t answer_words);
 
-/* What `showlist` prints for the file: its rules, policies, keep list and script in words, or the refusal's line. */
+/* What `showlist` prints for the file: its rules, policies, default, keep list and script in words, or the refusal's line. */
 uint32_t pageoriole_show_text(const uint8_t *file, size_t file_size, uint8_t *place, size_t place_size, uint64_t *answer, size_t answer_words);
 
 /* ---- Field values as one struct ---- */
@@ -387,42 +411,46 @@ static inline void pageoriole_take_script(struct pageoriole_values *values, cons
 
 /* pageoriole_check. */
 static inline uint32_t pageoriole_check_values(const struct pageoriole_values *v, uint64_t *answer, size_t answer_words) {
-    return pageoriole_check(v->rules, v->rules_size, v->initial, v->initial_size, v->target, v->target_size, v->has_keep, v->keep, v->keep_size,
-                            v->has_script, v->script, v->script_size, answer, answer_words);
+    return pageoriole_check(v->rules, v->rules_size, v->initial, v->initial_size, v->target, v->target_size, v->has_default, v->default_value,
+                            v->default_size, v->has_keep, v->keep, v->keep_size, v->has_script, v->script, v->script_size, answer, answer_words);
 }
 
 /* pageoriole_write. */
 static inline uint32_t pageoriole_write_values(const struct pageoriole_values *v, uint8_t *place, size_t place_size, uint64_t *answer,
                                                size_t answer_words) {
-    return pageoriole_write(v->rules, v->rules_size, v->initial, v->initial_size, v->target, v->target_size, v->has_keep, v->keep, v->keep_size,
-                            v->has_script, v->script, v->script_size, place, place_size, answer, answer_words);
+    return pageoriole_write(v->rules, v->rules_size, v->initial, v->initial_size, v->target, v->target_size, v->has_default, v->default_value,
+                            v->default_size, v->has_keep, v->keep, v->keep_size, v->has_script, v->script, v->script_size, place, place_size,
+                            answer, answer_words);
 }
 
 /* pageoriole_plan_one. */
 static inline uint32_t pageoriole_plan_one_values(const struct pageoriole_values *v, uint8_t *place, size_t place_size, uint64_t *answer,
                                                   size_t answer_words) {
-    return pageoriole_plan_one(v->rules, v->rules_size, v->initial, v->initial_size, v->target, v->target_size, v->has_keep, v->keep,
-                               v->keep_size, v->has_script, v->script, v->script_size, place, place_size, answer, answer_words);
+    return pageoriole_plan_one(v->rules, v->rules_size, v->initial, v->initial_size, v->target, v->target_size, v->has_default,
+                               v->default_value, v->default_size, v->has_keep, v->keep, v->keep_size, v->has_script, v->script, v->script_size,
+                               place, place_size, answer, answer_words);
 }
 
 /* pageoriole_plan_two. */
 static inline uint32_t pageoriole_plan_two_values(const struct pageoriole_values *v, uint8_t *place, size_t place_size, uint64_t *answer,
                                                   size_t answer_words) {
-    return pageoriole_plan_two(v->rules, v->rules_size, v->initial, v->initial_size, v->target, v->target_size, v->has_keep, v->keep,
-                               v->keep_size, v->has_script, v->script, v->script_size, place, place_size, answer, answer_words);
+    return pageoriole_plan_two(v->rules, v->rules_size, v->initial, v->initial_size, v->target, v->target_size, v->has_default,
+                               v->default_value, v->default_size, v->has_keep, v->keep, v->keep_size, v->has_script, v->script, v->script_size,
+                               place, place_size, answer, answer_words);
 }
 
 /* pageoriole_judge. It needs a script: without one, what is judged is a script of no bytes, which gets 4. */
 static inline uint32_t pageoriole_judge_values(const struct pageoriole_values *v, uint64_t *answer, size_t answer_words) {
-    return pageoriole_judge(v->rules, v->rules_size, v->initial, v->initial_size, v->target, v->target_size, v->has_keep, v->keep, v->keep_size,
-                            v->script, v->has_script ? v->script_size : 0, answer, answer_words);
+    return pageoriole_judge(v->rules, v->rules_size, v->initial, v->initial_size, v->target, v->target_size, v->has_default, v->default_value,
+                            v->default_size, v->has_keep, v->keep, v->keep_size, v->script, v->has_script ? v->script_size : 0, answer,
+                            answer_words);
 }
 
 /* pageoriole_replay. The target and the keep list aren't looked at; a script is needed as by the judge. */
 static inline uint32_t pageoriole_replay_values(const struct pageoriole_values *v, uint8_t *place, size_t place_size, uint64_t *answer,
                                                 size_t answer_words) {
-    return pageoriole_replay(v->rules, v->rules_size, v->initial, v->initial_size, v->script, v->has_script ? v->script_size : 0, place,
-                             place_size, answer, answer_words);
+    return pageoriole_replay(v->rules, v->rules_size, v->initial, v->initial_size, v->has_default, v->default_value, v->default_size, v->script,
+                             v->has_script ? v->script_size : 0, place, place_size, answer, answer_words);
 }
 
 #ifdef __cplusplus

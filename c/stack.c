@@ -1,7 +1,7 @@
 /* How much stack each function touches: every call runs on a stack of its own, painted before it; the deepest byte that lost its paint is the
  * mark. The inputs are the largest that are accepted: 1,024 rules, policies of 512 rules that have none in common, or the same in reverse, or
- * equal with a keep list of 512, and scripts of 2,048 commands that run through. Prints the mark in bytes for each function, and fails where
- * one is above what the header says. */
+ * equal with a keep list of 512, a default, and scripts of 2,048 commands that run through. Prints the mark in bytes for each function, and
+ * fails where one is above what the header says. */
 #include <stdio.h>
 #include <string.h>
 
@@ -20,6 +20,9 @@ static uint8_t rules[PAGEORIOLE_RULES * PAGEORIOLE_RULE];
 static uint8_t flows[FLOWS * PAGEORIOLE_FLOW];
 static uint8_t place[PAGEORIOLE_SHOW_TEXT];
 static uint64_t answer[PAGEORIOLE_ANSWER];
+static const uint8_t permit[PAGEORIOLE_ACTION_WIDTH] = {PAGEORIOLE_PERMIT};
+
+#define DEFAULT true, permit, sizeof permit
 
 /* One input: policies, keep list and script as field values, and the file of them. */
 struct input {
@@ -54,8 +57,8 @@ static void make_rules(void) {
 }
 
 static void make_file(struct input *in) {
-    pageoriole_write(rules, sizeof rules, in->initial, LIST, in->target, LIST, in->has_keep, in->keep, in->keep_size, true, in->script, SCRIPT,
-                     in->file, sizeof in->file, answer, PAGEORIOLE_ANSWER);
+    pageoriole_write(rules, sizeof rules, in->initial, LIST, in->target, LIST, DEFAULT, in->has_keep, in->keep, in->keep_size, true, in->script,
+                     SCRIPT, in->file, sizeof in->file, answer, PAGEORIOLE_ANSWER);
     in->file_size = answer[PAGEORIOLE_WRITTEN_BYTES];
 }
 
@@ -112,7 +115,7 @@ static void make_inputs(void) {
 #define ANSWER answer, (size_t)PAGEORIOLE_ANSWER
 #define FILE_NOW now->file, now->file_size
 #define RULES rules, sizeof rules
-#define VALUES RULES, now->initial, (size_t)LIST, now->target, (size_t)LIST, now->has_keep, now->keep, now->keep_size
+#define VALUES RULES, now->initial, (size_t)LIST, now->target, (size_t)LIST, DEFAULT, now->has_keep, now->keep, now->keep_size
 #define SCRIPT_NOW now->script, (size_t)SCRIPT
 #define PLACE place, sizeof place
 #define FLOW 17, 0, 0, 0, 0
@@ -125,11 +128,11 @@ static void read_to_judge(void) { number = pageoriole_read_to_judge(FILE_NOW, AN
 static void check(void) { number = pageoriole_check(VALUES, true, SCRIPT_NOW, ANSWER); }
 static void write(void) { number = pageoriole_write(VALUES, true, SCRIPT_NOW, PLACE, ANSWER); }
 static void decide_file(void) { number = pageoriole_decide_file(FILE_NOW, true, FLOW, ANSWER); }
-static void decide(void) { number = pageoriole_decide(RULES, now->target, LIST, FLOW, ANSWER); }
+static void decide(void) { number = pageoriole_decide(RULES, now->target, LIST, DEFAULT, FLOW, ANSWER); }
 static void flows_file(void) { number = pageoriole_decide_flows_file(FILE_NOW, true, FLOWS_MADE, PLACE, ANSWER); }
-static void flows_lists(void) { number = pageoriole_decide_flows(RULES, now->target, LIST, FLOWS_MADE, PLACE, ANSWER); }
+static void flows_lists(void) { number = pageoriole_decide_flows(RULES, now->target, LIST, DEFAULT, FLOWS_MADE, PLACE, ANSWER); }
 static void replay_file(void) { number = pageoriole_replay_file(FILE_NOW, PLACE, ANSWER); }
-static void replay(void) { number = pageoriole_replay(RULES, now->initial, LIST, SCRIPT_NOW, PLACE, ANSWER); }
+static void replay(void) { number = pageoriole_replay(RULES, now->initial, LIST, DEFAULT, SCRIPT_NOW, PLACE, ANSWER); }
 static void plan_one_file(void) { number = pageoriole_plan_one_file(FILE_NOW, PLACE, ANSWER); }
 static void plan_two_file(void) { number = pageoriole_plan_two_file(FILE_NOW, PLACE, ANSWER); }
 static void plan_one(void) { number = pageoriole_plan_one(VALUES, true, SCRIPT_NOW, PLACE, ANSWER); }
@@ -190,7 +193,7 @@ int main(void) {
         for (size_t i = 0; i < sizeof inputs / sizeof *inputs; i++) {
             now = inputs[i];
             size_t here = mark(calls[k].call);
-            accepted = accepted && (number == PAGEORIOLE_DONE || number > PAGEORIOLE_ELSEWHERE);
+            accepted = accepted && (number == PAGEORIOLE_DONE || number > PAGEORIOLE_ELSEWHERE) && !pageoriole_turned_away(number);
             if (here > deepest) deepest = here;
         }
         printf("%-28s %6zu bytes of %zu\n", calls[k].name, deepest, calls[k].most);

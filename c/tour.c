@@ -1,5 +1,5 @@
-/* A tour of the library, by the header's names alone: makes three rules and two policies, decides flows, plans by both languages, judges both
- * plans and a script that is wrong, and prints a sentence for each answer. */
+/* A tour of the library, by the header's names alone: makes three rules and two policies, decides flows, also by the default, plans by both
+ * languages, judges both plans and a script that is wrong, and prints a sentence for each answer. */
 #include <stdio.h>
 
 #include "pageoriole.h"
@@ -7,7 +7,7 @@
 /* Rules by their numbers, how many there are, and how many a policy names. */
 enum { MAIL, WEB, REST, CATALOGUE };
 enum { LISTED = 2 };
-enum { TCP = 6, MAIL_PORT = 25, WEB_PORT = 443 };
+enum { TCP = 6, UDP = 17, MAIL_PORT = 25, WEB_PORT = 443 };
 
 static uint8_t rules[CATALOGUE * PAGEORIOLE_RULE];
 static uint8_t initial[LISTED * PAGEORIOLE_LISTED_WIDTH], target[LISTED * PAGEORIOLE_LISTED_WIDTH];
@@ -70,13 +70,22 @@ static void decide(const char *what, const uint8_t *policy, size_t policy_size) 
     enum { FLOWS = sizeof ports / sizeof *ports };
     static uint8_t flows[FLOWS * PAGEORIOLE_FLOW], decisions[FLOWS * PAGEORIOLE_DECISION];
     for (size_t k = 0; k < FLOWS; k++) put_flow(flows + k * PAGEORIOLE_FLOW, ports[k]);
-    say(what, pageoriole_decide_flows(rules, sizeof rules, policy, policy_size, flows, sizeof flows, decisions, sizeof decisions, answer,
-                                      PAGEORIOLE_ANSWER));
+    say(what, pageoriole_decide_flows(rules, sizeof rules, policy, policy_size, false, NULL, 0, flows, sizeof flows, decisions, sizeof decisions,
+                                      answer, PAGEORIOLE_ANSWER));
     for (size_t k = 0; k < FLOWS; k++) {
         const uint8_t *decision = decisions + k * PAGEORIOLE_DECISION;
         printf("  port %u: %s at place %u\n", ports[k], decision[PAGEORIOLE_DECISION_ACTION] == PAGEORIOLE_PERMIT ? "permit" : "deny",
                pageoriole_get(decision + PAGEORIOLE_DECISION_PLACE, PAGEORIOLE_PLACE_WIDTH));
     }
+}
+
+/* A flow that no rule of the target matches: the default decides it, at place 0. An absent one denies. */
+static void decide_by_default(const char *what, bool has_default) {
+    static const uint8_t permit[PAGEORIOLE_ACTION_WIDTH] = {PAGEORIOLE_PERMIT};
+    say(what, pageoriole_decide(rules, sizeof rules, target, sizeof target, has_default, permit, sizeof permit, UDP, 0, 0, 0, WEB_PORT, answer,
+                                PAGEORIOLE_ANSWER));
+    printf("  %s at place %llu\n", answer[PAGEORIOLE_DECIDED_ACTION] == PAGEORIOLE_PERMIT ? "permit" : "deny",
+           (unsigned long long)answer[PAGEORIOLE_DECIDED_PLACE]);
 }
 
 typedef uint32_t planner(const struct pageoriole_values *, uint8_t *, size_t, uint64_t *, size_t);
@@ -108,6 +117,8 @@ int main(void) {
     say("the values", pageoriole_check_values(&values, answer, PAGEORIOLE_ANSWER));
     decide("flows by the initial policy", initial, sizeof initial);
     decide("flows by the target", target, sizeof target);
+    decide_by_default("a flow that no rule matches", false);
+    decide_by_default("the same under default permit", true);
     plan_and_judge("plan by append and delete", pageoriole_plan_one_values, &values);
     plan_and_judge("plan by insert, delete and move", pageoriole_plan_two_values, &values);
     judge_wrong_script(&values);

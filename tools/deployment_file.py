@@ -37,6 +37,8 @@ def value_fault(tag, value, rules, policies):
         if any(n >= len(rules) for n in ns):
             return 8
         return 9 if len(set(ns)) < len(ns) else 0
+    if tag == 6:
+        return 0 if value == b"\x01" else 50
     if tag == 4:
         return 0 if all(occurs(listed(value), p) for p in policies) else 10
     if value[0] not in (1, 2):
@@ -52,6 +54,8 @@ def value_fault(tag, value, rules, policies):
 def length_fits(tag, size):
     if tag == 1:
         return size == 27
+    if tag == 6:
+        return size == 1
     if tag == 5:
         return size % 5 == 1 and size <= 1 + 5 * 2048
     return size % 2 == 0 and size <= 1024
@@ -60,7 +64,7 @@ def length_fits(tag, size):
 def read(f):
     """The line for a file: its refusal, or the places of its values."""
     at, nexts, rules, policies, spans = 0, {1, 2}, [], [], {}
-    after = {1: {1, 2}, 2: {3}, 3: {4, 5}, 4: {5}, 5: set()}
+    after = {1: {1, 2}, 2: {3}, 3: {6, 4, 5}, 6: {4, 5}, 4: {5}, 5: set()}
     while at < len(f):
         if len(f) - at < 3:
             return f"refused 1 at {at}"
@@ -88,7 +92,7 @@ def read(f):
     if 3 not in spans:
         return f"refused 3 at {at}"
     words = [f"rules {len(rules)}"]
-    for tag, name in ((2, "initial"), (3, "target"), (4, "keep"), (5, "script")):
+    for tag, name in ((2, "initial"), (3, "target"), (6, "default"), (4, "keep"), (5, "script")):
         words.append(f"{name} {spans[tag][0]} {spans[tag][1]}" if tag in spans else f"{name} none")
     return " ".join(words)
 
@@ -106,17 +110,18 @@ def commands(value):
 
 
 def contents(f):
-    """What an accepted file has: its rules, its policies, and the keep list and the script, or None."""
+    """What an accepted file has: its rules, the lists of its policies, their default, and the keep list and the script, or None."""
     words = read(f).split()
     if words[0] == "refused":
         return None
     values = {}
     at = 2
-    for name in ("initial", "target", "keep", "script"):
+    for name in ("initial", "target", "default", "keep", "script"):
         absent = words[at + 1] == "none"
         values[name] = None if absent else f[int(words[at + 1]):int(words[at + 1]) + int(words[at + 2])]
         at += 2 if absent else 3
     taken = {name: None if values[name] is None else listed(values[name]) for name in ("initial", "target", "keep")}
+    taken["default"] = "deny" if values["default"] is None else "permit"
     taken["rules"] = [f[30 * k + 3:30 * k + 30] for k in range(int(words[1]))]
     taken["script"] = None if values["script"] is None else (values["script"][0], commands(values["script"]))
     return taken

@@ -59,8 +59,9 @@ def show(file):
             places[words[i]], i = file[start:start + size], i + 3
     rules = int(words[1])
     lines = [f"rules {rules}"] + [rule_line(k, file[k * RULE + 3:(k + 1) * RULE]) for k in range(rules)]
-    for name in ("initial", "target", "keep"):
-        lines += [f"{name} absent"] if places[name] is None else list_lines(name, listed(places[name]))
+    lines += list_lines("initial", listed(places["initial"])) + list_lines("target", listed(places["target"]))
+    lines.append("default deny" if places["default"] is None else "default permit")
+    lines += ["keep absent"] if places["keep"] is None else list_lines("keep", listed(places["keep"]))
     lines += ["script absent"] if places["script"] is None else script_lines(places["script"])
     return ("\n".join(lines) + "\n").encode()
 

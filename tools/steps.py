@@ -153,7 +153,7 @@ def matches(rule, flow):
     return all(int.from_bytes(rule[a:a + w], "big") <= n <= int.from_bytes(rule[a + w:a + 2 * w], "big") for n, (a, w) in zip(flow, ends))
 
 
-def decided(rules, now, flow):
-    """The action on a flow, and the rule that decides it or None."""
+def decided(rules, default, now, flow):
+    """The action on a flow by a list with this default, and the rule that decides it or None."""
     rule = next((r for r in now if matches(rules[r], flow)), None)
-    return ("deny", None) if rule is None else ("permit" if rules[rule][0] else "deny", rule)
+    return (default, None) if rule is None else ("permit" if rules[rule][0] else "deny", rule)

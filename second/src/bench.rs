@@ -9,7 +9,7 @@ use crate::format::numbers;
 use crate::judge::judge_values;
 use crate::library;
 use crate::plan::plan_values;
-use crate::policy::{decide_flows_values, DECISION_BYTES};
+use crate::policy::{decide_flows_values, PolicyValues, DECISION_BYTES};
 use crate::rule::Flow;
 use made::{Made, Policies};
 use std::hint::black_box;
@@ -77,7 +77,7 @@ impl Bench<'_> {
 
     fn reading(&self, rules: usize) {
         let file = Made::full_file(rules);
-        let mut words = [0; 11];
+        let mut words = [0; 14];
         same(library::read(&file, &mut words), 0);
         same(words[0] as usize, file::read(&file).expect("an accepted file").rules.len());
         self.line(
@@ -103,18 +103,19 @@ impl Bench<'_> {
 
     /// One call tests the values and decides all flows.
     fn deciding(&self, rules: usize, flows: &[Flow]) {
-        let (bytes, policy) = (made::plain_catalogue(rules), Made::new(rules, Policies::Equal).initial);
+        let (bytes, list) = (made::plain_catalogue(rules), Made::new(rules, Policies::Equal).initial);
+        let policy = PolicyValues { rules: &bytes, list: &list, default: None };
         let flows: Vec<u8> = flows.iter().flat_map(Flow::bytes).collect();
         let needed = DECISION_BYTES * FLOWS;
         let (mut place, mut other_place, mut words) = (vec![0; needed], vec![0; needed], [0; 1]);
-        same(library::decide_flows(&bytes, &policy, &flows, &mut place, &mut words), 0);
-        same(decide_flows_values(&bytes, &policy, &flows, &mut other_place), Ok(words[0] as usize));
+        same(library::decide_flows(&policy, &flows, &mut place, &mut words), 0);
+        same(decide_flows_values(&policy, &flows, &mut other_place), Ok(words[0] as usize));
         assert!(place == other_place, "the two answer differently");
         self.line(
             format!("decide {FLOWS} flows by {rules} rules"),
             LONG_REPETITIONS,
-            || library::decide_flows(&bytes, &policy, black_box(&flows), &mut place, &mut words),
-            || decide_flows_values(&bytes, &policy, black_box(&flows), &mut other_place),
+            || library::decide_flows(&policy, black_box(&flows), &mut place, &mut words),
+            || decide_flows_values(&policy, black_box(&flows), &mut other_place),
         );
     }
 

@@ -3,10 +3,11 @@
 //!
 //! A case of the reader is a file; `writer` says what one of the writer is. One of
 //! the entries is numbers of two bytes: whether it is about a file (0) or field
-//! values (1), whether there is a keep list, whether there is a script, the room
-//! lent for output, and the flow, whose addresses have two numbers each; then its
-//! parts, themselves a row: the file; or the rules, both policies, the keep list
-//! and the script; and last flows, as the entries take many at once.
+//! values (1), whether there is a default, whether there is a keep list, whether
+//! there is a script, the room lent for output, and the flow, whose addresses have
+//! two numbers each; then its parts, themselves a row: the file; or the rules, both
+//! policies, the default, the keep list and the script; and last flows, as the
+//! entries take many at once.
 
 mod base;
 mod case;
@@ -85,16 +86,16 @@ mod tests {
 
     #[test]
     fn every_refusal_of_the_reader_occurs() {
-        let mut wanted: Vec<String> = (1..=11).map(|number| format!("refused {number} at")).collect();
+        let mut wanted: Vec<String> = (1..=11).chain([50]).map(|number| format!("refused {number} at")).collect();
         wanted.push("rules 5 initial".into());
         expect_lines(&text_of(reader::all()), &wanted);
     }
 
     #[test]
     fn every_refusal_of_the_writer_occurs_and_nothing_else_is_written() {
-        let mut wanted = [4, 5, 6, 7, 8, 9, 10, 11].map(|number| format!("refused {number} at 0 kept")).to_vec();
-        wanted.extend([6, 44045].map(|needed| format!("refused 13 at {needed} kept")));
-        wanted.extend([6, 44045].map(|written| format!("wrote {written} sum")));
+        let mut wanted = [4, 5, 6, 7, 8, 9, 10, 11, 50].map(|number| format!("refused {number} at 0 kept")).to_vec();
+        wanted.extend([6, 44049].map(|needed| format!("refused 13 at {needed} kept")));
+        wanted.extend([6, 10, 44049].map(|written| format!("wrote {written} sum")));
         let text = text_of(writer::all());
         expect_lines(&text, &wanted);
         assert!(text.lines().all(|line| line.contains(" kept")));
@@ -106,7 +107,7 @@ mod tests {
         let refused = |entry, numbers: &[u8]| -> Vec<String> {
             numbers.iter().map(|number| format!("{entry} refused {number}")).collect()
         };
-        let of_file = [1, 2, 3, 4, 5, 6, 7, 8, 9, 10, 11];
+        let of_file = [1, 2, 3, 4, 5, 6, 7, 8, 9, 10, 11, 50];
         let mut wanted = refused("read", &of_file);
         for entry in ["read to judge", "judge", "replay"] {
             wanted.extend(refused(entry, &of_file));
@@ -118,12 +119,14 @@ mod tests {
         for entry in ["replay", "flows by initial", "flows by target", "plan 1", "plan 2"] {
             wanted.extend(refused(entry, &[13]));
         }
-        wanted.extend([4, 5, 6, 7, 8, 9, 10, 11].map(|number| format!("check {number}")));
+        wanted.extend([4, 5, 6, 7, 8, 9, 10, 11, 50].map(|number| format!("check {number}")));
         wanted.extend([20, 21, 22, 23, 24, 30, 31, 32].map(|number| format!("judge verdict {number}")));
         wanted.extend([20, 21, 22, 23].map(|number| format!("replay broken {number}")));
-        wanted.extend(
-            ["check good", "initial permit", "initial deny 0", "target permit", "target deny 0"].map(String::from),
-        );
+        for policy in ["initial", "target"] {
+            let decisions = ["permit 0", "permit 1", "deny 0", "deny 1"];
+            wanted.extend(decisions.map(|decision| format!("{policy} {decision}")));
+        }
+        wanted.push("check good".into());
         wanted.extend(["replay ended", "plan 1 kept", "plan 2 kept"].map(String::from));
         wanted.extend(["flows by initial bytes", "flows by target bytes"].map(String::from));
         expect_lines(&text, &wanted);

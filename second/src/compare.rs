@@ -82,11 +82,12 @@ fn answer_kind(answer: &Answer) -> String {
     let judge = answer.entry.starts_with("judge");
     let one_flow = matches!(answer.entry, "decide file" | "decide values");
     match (answer.number, answer.words) {
-        (0, [1, ..]) if one_flow => "permit by a rule".to_string(),
         (0, [0, 0, ..]) if one_flow => "deny by default".to_string(),
+        (0, [1, 0, ..]) if one_flow => "permit by default".to_string(),
+        (0, [1, ..]) if one_flow => "permit by a rule".to_string(),
         (0, _) if one_flow => "deny by a rule".to_string(),
         (0, _) => "done".to_string(),
-        (number @ 1..=13, _) => format!("refused {number:>2}"),
+        (number @ (1..=13 | 50), _) => format!("refused {number:>2}"),
         (number, _) if judge => format!("verdict {number:>2}"),
         (number, _) => format!("breaks off {number:>2}"),
     }
@@ -126,7 +127,8 @@ fn print_difference(index: u64, input: &Input, difference: &Difference) {
     let made = &input.made;
     println!("input {index} differs\nfile {}", hex(&input.file));
     println!("rules {}\ninitial {}\ntarget {}", hex(&made.rules), hex(&made.initial), hex(&made.target));
-    println!("keep {:?}\nscript {:?}", made.keep.as_deref().map(hex), made.script.as_deref().map(hex));
+    let [default, keep, script] = [&made.default, &made.keep, &made.script].map(|part| part.as_deref().map(hex));
+    println!("default {default:?}\nkeep {keep:?}\nscript {script:?}");
     println!("room {} for a script, {} for a file, {:?}", made.plan_room, made.file_room, input.rooms);
     println!("flows {:?}\nas bytes {}", input.flows, hex(&input.flow_bytes));
     println!("second {}\nother {}", difference.0, difference.1);

@@ -1,4 +1,4 @@
-//! The deployment file: reader, writer, and the refusals 1 to 13.
+//! The deployment file: reader, writer, and the refusals 1 to 13 and 50.
 //!
 //! `read` takes a whole file; `check` takes field values and tests them in the
 //! order that "Turned away" gives for entries that take lists.
@@ -6,7 +6,7 @@
 use crate::commands::Command;
 use crate::format::{
     add_field, numbers, Refusal, COMMAND_BYTES, HEAD_BYTES, MOST_COMMANDS, MOST_IN_POLICY, MOST_RULES, RULE_BYTES,
-    TAG_INITIAL, TAG_KEEP, TAG_RULE, TAG_SCRIPT, TAG_TARGET,
+    TAG_DEFAULT, TAG_INITIAL, TAG_KEEP, TAG_RULE, TAG_SCRIPT, TAG_TARGET,
 };
 use crate::rule::is_rule;
 use std::collections::HashSet;
@@ -17,6 +17,7 @@ pub struct Contents<'a> {
     pub rules: Vec<&'a [u8]>,
     pub initial: &'a [u8],
     pub target: &'a [u8],
+    pub default: Option<&'a [u8]>,
     pub keep: Option<&'a [u8]>,
     pub script: Option<&'a [u8]>,
 }
@@ -27,6 +28,7 @@ pub struct Values<'a> {
     pub rules: &'a [u8],
     pub initial: &'a [u8],
     pub target: &'a [u8],
+    pub default: Option<&'a [u8]>,
     pub keep: Option<&'a [u8]>,
     pub script: Option<&'a [u8]>,
 }
@@ -46,6 +48,7 @@ fn refuse_if(wrong: bool, number: u8) -> Tested {
 fn test_length(tag: u8, length: usize) -> Tested {
     let right = match tag {
         TAG_RULE => length == RULE_BYTES,
+        TAG_DEFAULT => length == 1,
         TAG_SCRIPT => length % COMMAND_BYTES == 1 && length / COMMAND_BYTES <= MOST_COMMANDS,
         _ => length.is_multiple_of(2) && length / 2 <= MOST_IN_POLICY,
     };
@@ -63,6 +66,15 @@ fn test_policy(value: &[u8], rules: usize) -> Tested {
     let mut named = [false; MOST_RULES];
     let twice = list.iter().any(|&rule| std::mem::replace(&mut named[usize::from(rule)], true));
     refuse_if(twice, 9)
+}
+
+fn test_default(value: &[u8]) -> Tested {
+    refuse_if(!permits(Some(value)), 50)
+}
+
+/// What a default means: value 1 is permit, absence is deny.
+pub fn permits(default: Option<&[u8]>) -> bool {
+    default == Some(&[1])
 }
 
 /// Whether `part` can be got from `whole` by leaving rules out.
@@ -98,7 +110,8 @@ fn may_follow(last_tag: u8, tag: u8) -> bool {
     match last_tag {
         0 | TAG_RULE => tag == TAG_RULE || tag == TAG_INITIAL,
         TAG_INITIAL => tag == TAG_TARGET,
-        TAG_TARGET => tag == TAG_KEEP || tag == TAG_SCRIPT,
+        TAG_TARGET => tag == TAG_DEFAULT || tag == TAG_KEEP || tag == TAG_SCRIPT,
+        TAG_DEFAULT => tag == TAG_KEEP || tag == TAG_SCRIPT,
         TAG_KEEP => tag == TAG_SCRIPT,
         _ => false,
     }
@@ -131,6 +144,10 @@ impl<'a> Reader<'a> {
             TAG_TARGET => {
                 test_policy(value, contents.rules.len())?;
                 contents.target = value;
+            }
+            TAG_DEFAULT => {
+                test_default(value)?;
+                contents.default = Some(value);
             }
             TAG_KEEP => {
                 test_keep(value, contents.initial, contents.target)?;
@@ -199,11 +216,19 @@ pub fn check_policy(value: &[u8], rules: usize) -> Result<(), Refusal> {
     at_zero(test_policy(value, rules))
 }
 
+/// Tests a default, if there is one: 4, 50.
+pub fn check_default(default: Option<&[u8]>) -> Result<(), Refusal> {
+    let Some(value) = default else { return Ok(()) };
+    at_zero(test_length(TAG_DEFAULT, value.len()))?;
+    at_zero(test_default(value))
+}
+
 /// Tests all values in the document's order, every refusal at position 0.
 pub fn check<'a>(values: &Values<'a>) -> Result<Contents<'a>, Refusal> {
     let rules = check_rules(values.rules)?;
     check_policy(values.initial, rules.len())?;
     check_policy(values.target, rules.len())?;
+    check_default(values.default)?;
     if let Some(keep) = values.keep {
         at_zero(test_length(TAG_KEEP, keep.len()))?;
         at_zero(test_keep(keep, values.initial, values.target))?;
@@ -212,8 +237,8 @@ pub fn check<'a>(values: &Values<'a>) -> Result<Contents<'a>, Refusal> {
         at_zero(test_length(TAG_SCRIPT, script.len()))?;
         at_zero(test_script(script))?;
     }
-    let Values { initial, target, keep, script, .. } = *values;
-    Ok(Contents { rules, initial, target, keep, script })
+    let Values { initial, target, default, keep, script, .. } = *values;
+    Ok(Contents { rules, initial, target, default, keep, script })
 }
 
 // ---- The writer ----
@@ -233,6 +258,9 @@ pub fn file_bytes(contents: &Contents) -> Vec<u8> {
     }
     add_field(&mut out, TAG_INITIAL, contents.initial);
     add_field(&mut out, TAG_TARGET, contents.target);
+    if let Some(default) = contents.default {
+        add_field(&mut out, TAG_DEFAULT, default);
+    }
     if let Some(keep) = contents.keep {
         add_field(&mut out, TAG_KEEP, keep);
     }
@@ -262,6 +290,7 @@ mod tests {
             rules: rules.iter().map(Vec::as_slice).collect(),
             initial: &initial,
             target: &target,
+            default: None,
             keep: keep.as_deref(),
             script: None,
         })
@@ -303,6 +332,33 @@ mod tests {
     }
 
     #[test]
+    fn a_default_stands_behind_the_target() {
+        let of = |fields: &[&[u8]]| fields.concat();
+        let (policies, default, keep): (&[u8], &[u8], &[u8]) = (&[2, 0, 0, 3, 0, 0], &[6, 0, 1, 1], &[4, 0, 0]);
+        assert!(!permits(read(policies).unwrap().default));
+        assert!(permits(read(&of(&[policies, default])).unwrap().default));
+        assert!(read(&of(&[policies, default, keep, &[5, 0, 1, 1]])).is_ok());
+        assert!(read(&of(&[policies, default, &[5, 0, 1, 2]])).is_ok());
+        assert_eq!(refusal(default), (2, 0));
+        assert_eq!(refusal(&of(&[&policies[..3], default])), (2, 3));
+        assert_eq!(refusal(&of(&[policies, keep, default])), (2, 9));
+        assert_eq!(refusal(&of(&[policies, &[5, 0, 1, 1], default])), (2, 10));
+        assert_eq!(refusal(&of(&[policies, default, default])), (2, 10));
+    }
+
+    #[test]
+    fn a_default_other_than_permit_is_refused_after_its_length_and_its_cut() {
+        let refused = |field: &[u8]| refusal(&[&[2, 0, 0, 3, 0, 0], field].concat());
+        assert_eq!(refused(&[6, 0]), (1, 6));
+        assert_eq!(refused(&[6, 0, 0]), (4, 6));
+        assert_eq!(refused(&[6, 0, 2, 1]), (4, 6));
+        assert_eq!(refused(&[6, 0, 1]), (1, 6));
+        for value in [0, 2, 255] {
+            assert_eq!(refused(&[6, 0, 1, value]), (50, 6));
+        }
+    }
+
+    #[test]
     fn a_keep_list_out_of_order_is_refused() {
         let file = small_file(&[0, 1, 2], &[2, 0, 1], Some(&[1, 0]));
         assert_eq!(refusal(&file), (10, 5 * 30 + 9 + 9));
@@ -312,13 +368,17 @@ mod tests {
     #[test]
     fn what_is_read_is_written_back() {
         for keep in [None, Some(&[][..]), Some(&[0u16, 1][..])] {
-            let file = small_file(&[0, 1, 2], &[2, 0, 1], keep);
+            let mut file = small_file(&[0, 1, 2], &[2, 0, 1], keep);
+            if keep.is_some() {
+                file.splice(5 * 30 + 9 + 9..5 * 30 + 9 + 9, [6, 0, 1, 1]);
+            }
             let contents = read(&file).unwrap();
             let rules = contents.rules.concat();
             let values = Values {
                 rules: &rules,
                 initial: contents.initial,
                 target: contents.target,
+                default: contents.default,
                 keep: contents.keep,
                 script: contents.script,
             };
@@ -349,6 +409,12 @@ mod tests {
         assert_eq!(number(Values { initial: &[0, 0], target: &[0], ..Values::default() }), 8);
         assert_eq!(number(Values { rules: &rule, initial: &[0; 4], ..Values::default() }), 9);
         assert_eq!(number(Values { target: &[0], keep: Some(&[0]), ..Values::default() }), 4);
+        assert_eq!(number(Values { target: &[0], default: Some(&[2]), ..Values::default() }), 4);
+        assert_eq!(number(Values { target: &[0, 0], default: Some(&[2]), ..Values::default() }), 8);
+        assert_eq!(number(Values { default: Some(&[]), keep: Some(&[0, 0]), ..Values::default() }), 4);
+        assert_eq!(number(Values { default: Some(&[2, 2]), keep: Some(&[0, 0]), ..Values::default() }), 4);
+        assert_eq!(number(Values { default: Some(&[0]), keep: Some(&[0]), ..Values::default() }), 50);
+        assert_eq!(number(Values { default: Some(&[1]), keep: Some(&[0, 0]), ..Values::default() }), 10);
         assert_eq!(number(Values { keep: Some(&[0, 0]), script: Some(&[]), ..Values::default() }), 10);
         assert_eq!(number(Values { script: Some(&[3]), ..Values::default() }), 11);
     }

@@ -13,6 +13,7 @@ pub const TAG_INITIAL: u8 = 2;
 pub const TAG_TARGET: u8 = 3;
 pub const TAG_KEEP: u8 = 4;
 pub const TAG_SCRIPT: u8 = 5;
+pub const TAG_DEFAULT: u8 = 6;
 
 /// A file or a call turned away: the number of the table and its position.
 #[derive(Clone, Copy, Debug, PartialEq, Eq)]

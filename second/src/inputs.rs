@@ -165,7 +165,7 @@ mod tests {
             let outcome = text.split_whitespace().take(2).collect::<Vec<_>>().join(" ");
             *counts.entry(outcome).or_default() += 1;
         }
-        let refusals = (1..=12).map(|number| format!("refused {number}"));
+        let refusals = (1..=12).chain([50]).map(|number| format!("refused {number}"));
         let verdicts = (20..=24).chain(30..=32).map(|number| format!("verdict {number}"));
         for outcome in refusals.chain(verdicts) {
             let count = counts.get(&outcome).copied().unwrap_or(0);

@@ -2,6 +2,7 @@
 //! slices put together. The number is returned, its values stand in `answer`.
 
 use crate::file::Values;
+use crate::policy::PolicyValues;
 use crate::rule::Flow;
 
 type Bytes = *const u8;
@@ -12,7 +13,8 @@ type Writes = unsafe extern "C" fn(Bytes, usize, Place, usize, Words, usize) -> 
 
 #[rustfmt::skip]
 type Plans = unsafe extern "C" fn(
-    Bytes, usize, Bytes, usize, Bytes, usize, bool, Bytes, usize, bool, Bytes, usize, Place, usize, Words, usize,
+    Bytes, usize, Bytes, usize, Bytes, usize, bool, Bytes, usize, bool, Bytes, usize, bool, Bytes, usize, Place,
+    usize, Words, usize,
 ) -> u32;
 
 #[rustfmt::skip]
@@ -31,12 +33,13 @@ extern "C" {
         destination_port: u16, answer: Words, words: usize,
     ) -> u32;
     fn pageoriole_decide(
-        rules: Bytes, rules_size: usize, policy: Bytes, policy_size: usize, protocol: u8, source: u32,
-        source_port: u16, destination: u32, destination_port: u16, answer: Words, words: usize,
+        rules: Bytes, rules_size: usize, policy: Bytes, policy_size: usize, has_default: bool, default_value: Bytes,
+        default_size: usize, protocol: u8, source: u32, source_port: u16, destination: u32, destination_port: u16,
+        answer: Words, words: usize,
     ) -> u32;
     fn pageoriole_decide_flows(
-        rules: Bytes, rules_size: usize, policy: Bytes, policy_size: usize, flows: Bytes, flows_size: usize,
-        place: Place, room: usize, answer: Words, words: usize,
+        rules: Bytes, rules_size: usize, policy: Bytes, policy_size: usize, has_default: bool, default_value: Bytes,
+        default_size: usize, flows: Bytes, flows_size: usize, place: Place, room: usize, answer: Words, words: usize,
     ) -> u32;
     fn pageoriole_decide_flows_file(
         file: Bytes, size: usize, of_target: bool, flows: Bytes, flows_size: usize, place: Place, room: usize,
@@ -44,31 +47,36 @@ extern "C" {
     ) -> u32;
     fn pageoriole_check(
         rules: Bytes, rules_size: usize, initial: Bytes, initial_size: usize, target: Bytes, target_size: usize,
-        has_keep: bool, keep: Bytes, keep_size: usize, has_script: bool, script: Bytes, script_size: usize,
+        has_default: bool, default_value: Bytes, default_size: usize, has_keep: bool, keep: Bytes, keep_size: usize,
+        has_script: bool, script: Bytes, script_size: usize,
         answer: Words, words: usize,
     ) -> u32;
     fn pageoriole_write(
         rules: Bytes, rules_size: usize, initial: Bytes, initial_size: usize, target: Bytes, target_size: usize,
-        has_keep: bool, keep: Bytes, keep_size: usize, has_script: bool, script: Bytes, script_size: usize,
+        has_default: bool, default_value: Bytes, default_size: usize, has_keep: bool, keep: Bytes, keep_size: usize,
+        has_script: bool, script: Bytes, script_size: usize,
         place: Place, room: usize, answer: Words, words: usize,
     ) -> u32;
     fn pageoriole_plan_one(
         rules: Bytes, rules_size: usize, initial: Bytes, initial_size: usize, target: Bytes, target_size: usize,
-        has_keep: bool, keep: Bytes, keep_size: usize, has_script: bool, script: Bytes, script_size: usize,
+        has_default: bool, default_value: Bytes, default_size: usize, has_keep: bool, keep: Bytes, keep_size: usize,
+        has_script: bool, script: Bytes, script_size: usize,
         place: Place, room: usize, answer: Words, words: usize,
     ) -> u32;
     fn pageoriole_plan_two(
         rules: Bytes, rules_size: usize, initial: Bytes, initial_size: usize, target: Bytes, target_size: usize,
-        has_keep: bool, keep: Bytes, keep_size: usize, has_script: bool, script: Bytes, script_size: usize,
+        has_default: bool, default_value: Bytes, default_size: usize, has_keep: bool, keep: Bytes, keep_size: usize,
+        has_script: bool, script: Bytes, script_size: usize,
         place: Place, room: usize, answer: Words, words: usize,
     ) -> u32;
     fn pageoriole_replay(
-        rules: Bytes, rules_size: usize, initial: Bytes, initial_size: usize, script: Bytes, script_size: usize,
-        place: Place, room: usize, answer: Words, words: usize,
+        rules: Bytes, rules_size: usize, initial: Bytes, initial_size: usize, has_default: bool, default_value: Bytes,
+        default_size: usize, script: Bytes, script_size: usize, place: Place, room: usize, answer: Words, words: usize,
     ) -> u32;
     fn pageoriole_judge(
         rules: Bytes, rules_size: usize, initial: Bytes, initial_size: usize, target: Bytes, target_size: usize,
-        has_keep: bool, keep: Bytes, keep_size: usize, script: Bytes, script_size: usize, answer: Words, words: usize,
+        has_default: bool, default_value: Bytes, default_size: usize, has_keep: bool, keep: Bytes, keep_size: usize,
+        script: Bytes, script_size: usize, answer: Words, words: usize,
     ) -> u32;
 }
 
@@ -142,21 +150,27 @@ pub fn decide_flows_file(file: &[u8], of_target: bool, flows: &[u8], place: &mut
 // ---- Over field values ----
 
 #[rustfmt::skip]
-pub fn decide(rules: &[u8], policy: &[u8], flow: &Flow, answer: &mut [u64]) -> u32 {
+pub fn decide(values: &PolicyValues, flow: &Flow, answer: &mut [u64]) -> u32 {
+    let PolicyValues { rules, list, default } = *values;
+    let default_value = default.unwrap_or_default();
     unsafe {
         pageoriole_decide(
-            rules.as_ptr(), rules.len(), policy.as_ptr(), policy.len(), flow.protocol, flow.source, flow.source_port,
-            flow.destination, flow.destination_port, answer.as_mut_ptr(), answer.len(),
+            rules.as_ptr(), rules.len(), list.as_ptr(), list.len(), default.is_some(), default_value.as_ptr(),
+            default_value.len(), flow.protocol, flow.source, flow.source_port, flow.destination,
+            flow.destination_port, answer.as_mut_ptr(), answer.len(),
         )
     }
 }
 
 #[rustfmt::skip]
-pub fn decide_flows(rules: &[u8], policy: &[u8], flows: &[u8], place: &mut [u8], answer: &mut [u64]) -> u32 {
+pub fn decide_flows(values: &PolicyValues, flows: &[u8], place: &mut [u8], answer: &mut [u64]) -> u32 {
+    let PolicyValues { rules, list, default } = *values;
+    let default_value = default.unwrap_or_default();
     unsafe {
         pageoriole_decide_flows(
-            rules.as_ptr(), rules.len(), policy.as_ptr(), policy.len(), flows.as_ptr(), flows.len(),
-            place.as_mut_ptr(), place.len(), answer.as_mut_ptr(), answer.len(),
+            rules.as_ptr(), rules.len(), list.as_ptr(), list.len(), default.is_some(), default_value.as_ptr(),
+            default_value.len(), flows.as_ptr(), flows.len(), place.as_mut_ptr(), place.len(), answer.as_mut_ptr(),
+            answer.len(),
         )
     }
 }
@@ -164,11 +178,12 @@ pub fn decide_flows(rules: &[u8], policy: &[u8], flows: &[u8], place: &mut [u8],
 #[rustfmt::skip]
 pub fn check(values: &Values, answer: &mut [u64]) -> u32 {
     let Values { rules, initial, target, .. } = *values;
-    let (keep, script) = (values.keep.unwrap_or_default(), values.script.unwrap_or_default());
+    let [default, keep, script] = [values.default, values.keep, values.script].map(Option::unwrap_or_default);
     unsafe {
         pageoriole_check(
             rules.as_ptr(), rules.len(), initial.as_ptr(), initial.len(), target.as_ptr(), target.len(),
-            values.keep.is_some(), keep.as_ptr(), keep.len(), values.script.is_some(), script.as_ptr(), script.len(),
+            values.default.is_some(), default.as_ptr(), default.len(), values.keep.is_some(), keep.as_ptr(),
+            keep.len(), values.script.is_some(), script.as_ptr(), script.len(),
             answer.as_mut_ptr(), answer.len(),
         )
     }
@@ -177,11 +192,12 @@ pub fn check(values: &Values, answer: &mut [u64]) -> u32 {
 #[rustfmt::skip]
 fn writing_values(entry: Plans, values: &Values, place: &mut [u8], answer: &mut [u64]) -> u32 {
     let Values { rules, initial, target, .. } = *values;
-    let (keep, script) = (values.keep.unwrap_or_default(), values.script.unwrap_or_default());
+    let [default, keep, script] = [values.default, values.keep, values.script].map(Option::unwrap_or_default);
     unsafe {
         entry(
             rules.as_ptr(), rules.len(), initial.as_ptr(), initial.len(), target.as_ptr(), target.len(),
-            values.keep.is_some(), keep.as_ptr(), keep.len(), values.script.is_some(), script.as_ptr(), script.len(),
+            values.default.is_some(), default.as_ptr(), default.len(), values.keep.is_some(), keep.as_ptr(),
+            keep.len(), values.script.is_some(), script.as_ptr(), script.len(),
             place.as_mut_ptr(), place.len(), answer.as_mut_ptr(), answer.len(),
         )
     }
@@ -197,12 +213,16 @@ pub fn plan(kind: u8, values: &Values, place: &mut [u8], answer: &mut [u64]) -> 
     writing_values(entry, values, place, answer)
 }
 
+/// Replays the given script; a target, a keep list and a script among the values aren't looked at.
 #[rustfmt::skip]
-pub fn replay(rules: &[u8], initial: &[u8], script: &[u8], place: &mut [u8], answer: &mut [u64]) -> u32 {
+pub fn replay(values: &Values, script: &[u8], place: &mut [u8], answer: &mut [u64]) -> u32 {
+    let Values { rules, initial, .. } = *values;
+    let default = values.default.unwrap_or_default();
     unsafe {
         pageoriole_replay(
-            rules.as_ptr(), rules.len(), initial.as_ptr(), initial.len(), script.as_ptr(), script.len(),
-            place.as_mut_ptr(), place.len(), answer.as_mut_ptr(), answer.len(),
+            rules.as_ptr(), rules.len(), initial.as_ptr(), initial.len(), values.default.is_some(), default.as_ptr(),
+            default.len(), script.as_ptr(), script.len(), place.as_mut_ptr(), place.len(), answer.as_mut_ptr(),
+            answer.len(),
         )
     }
 }
@@ -211,12 +231,12 @@ pub fn replay(rules: &[u8], initial: &[u8], script: &[u8], place: &mut [u8], ans
 #[rustfmt::skip]
 pub fn judge(values: &Values, script: &[u8], answer: &mut [u64]) -> u32 {
     let Values { rules, initial, target, .. } = *values;
-    let keep = values.keep.unwrap_or_default();
+    let [default, keep] = [values.default, values.keep].map(Option::unwrap_or_default);
     unsafe {
         pageoriole_judge(
             rules.as_ptr(), rules.len(), initial.as_ptr(), initial.len(), target.as_ptr(), target.len(),
-            values.keep.is_some(), keep.as_ptr(), keep.len(), script.as_ptr(), script.len(), answer.as_mut_ptr(),
-            answer.len(),
+            values.default.is_some(), default.as_ptr(), default.len(), values.keep.is_some(), keep.as_ptr(),
+            keep.len(), script.as_ptr(), script.len(), answer.as_mut_ptr(), answer.len(),
         )
     }
 }

@@ -1,6 +1,6 @@
-//! The first-match decision of flows by a policy.
+//! Policies, and the first-match decision of flows by them.
 
-use crate::file;
+use crate::file::{self, Contents};
 use crate::format::Refusal;
 use crate::rule::{matches, Flow, FLOW_BYTES};
 
@@ -14,27 +14,60 @@ pub struct Decision {
     pub place: usize,
 }
 
-/// Decides a flow by a policy's value over the rules of accepted contents.
-pub fn decide(rules: &[&[u8]], policy: &[u8], flow: &Flow) -> Decision {
-    for (index, pair) in policy.chunks_exact(2).enumerate() {
+/// A list together with its default: the list's value, and whether a flow that
+/// no rule of it matches is permitted.
+#[derive(Clone, Copy, Debug)]
+pub struct Policy<'a> {
+    pub list: &'a [u8],
+    pub permits: bool,
+}
+
+impl<'a> Policy<'a> {
+    /// One of the two policies of accepted contents: both have the same default.
+    pub fn of(contents: &Contents<'a>, of_target: bool) -> Policy<'a> {
+        let list = if of_target { contents.target } else { contents.initial };
+        Policy { list, permits: file::permits(contents.default) }
+    }
+}
+
+/// Decides a flow by a policy over the rules of accepted contents.
+pub fn decide(rules: &[&[u8]], policy: Policy, flow: &Flow) -> Decision {
+    for (index, pair) in policy.list.chunks_exact(2).enumerate() {
         let rule = rules[usize::from(u16::from_be_bytes([pair[0], pair[1]]))];
         if matches(rule, flow) {
             return Decision { permit: rule[0] == 1, place: index + 1 };
         }
     }
-    Decision { permit: false, place: 0 }
+    Decision { permit: policy.permits, place: 0 }
+}
+
+/// Field values of one policy, as a caller hands them over.
+#[derive(Clone, Copy, Debug)]
+pub struct PolicyValues<'a> {
+    pub rules: &'a [u8],
+    pub list: &'a [u8],
+    pub default: Option<&'a [u8]>,
+}
+
+impl<'a> PolicyValues<'a> {
+    /// Tests the rules, the list, then the default.
+    fn check(&self) -> Result<(Vec<&'a [u8]>, Policy<'a>), Refusal> {
+        let rules = file::check_rules(self.rules)?;
+        file::check_policy(self.list, rules.len())?;
+        file::check_default(self.default)?;
+        Ok((rules, Policy { list: self.list, permits: file::permits(self.default) }))
+    }
 }
 
 /// The same over field values, tested first.
-pub fn decide_values(rules: &[u8], policy: &[u8], flow: &Flow) -> Result<Decision, Refusal> {
-    let rules = file::check_rules(rules)?;
-    file::check_policy(policy, rules.len())?;
+pub fn decide_values(values: &PolicyValues, flow: &Flow) -> Result<Decision, Refusal> {
+    let (rules, policy) = values.check()?;
     Ok(decide(&rules, policy, flow))
 }
 
-/// Decides flows of 13 bytes by a policy's value over the rules of accepted
-/// contents: for each, action and two-byte place in the first bytes of `place`.
-pub fn decide_flows(rules: &[&[u8]], policy: &[u8], flows: &[u8], place: &mut [u8]) -> Result<usize, Refusal> {
+/// Decides flows of 13 bytes by a policy over the rules of accepted contents:
+/// for each, action and two-byte place in the first bytes of `place`.
+pub fn decide_flows(rules: &[&[u8]], policy: Policy, flows: &[u8], place: &mut [u8]) -> Result<usize, Refusal> {
     if !flows.len().is_multiple_of(FLOW_BYTES) {
         return Err(Refusal { number: 4, position: 0 });
     }
@@ -49,17 +82,15 @@ pub fn decide_flows(rules: &[&[u8]], policy: &[u8], flows: &[u8], place: &mut [u
 }
 
 /// The same over field values, tested first.
-pub fn decide_flows_values(rules: &[u8], policy: &[u8], flows: &[u8], place: &mut [u8]) -> Result<usize, Refusal> {
-    let rules = file::check_rules(rules)?;
-    file::check_policy(policy, rules.len())?;
+pub fn decide_flows_values(values: &PolicyValues, flows: &[u8], place: &mut [u8]) -> Result<usize, Refusal> {
+    let (rules, policy) = values.check()?;
     decide_flows(&rules, policy, flows, place)
 }
 
 /// The same over a file, by its target policy or by its initial one.
 pub fn decide_flows_file(file: &[u8], of_target: bool, flows: &[u8], place: &mut [u8]) -> Result<usize, Refusal> {
     let contents = file::read(file)?;
-    let policy = if of_target { contents.target } else { contents.initial };
-    decide_flows(&contents.rules, policy, flows, place)
+    decide_flows(&contents.rules, Policy::of(&contents, of_target), flows, place)
 }
 
 #[cfg(test)]
@@ -67,6 +98,7 @@ mod tests {
     use super::*;
 
     const GRE: Flow = Flow { protocol: 47, source: 1, source_port: 0, destination: 2, destination_port: 0 };
+    const DEFAULTS: [Option<&[u8]>; 2] = [None, Some(&[1])];
 
     fn permit_port_zero() -> Vec<u8> {
         let mut rule = vec![1, 0, 255];
@@ -78,17 +110,21 @@ mod tests {
     }
 
     #[test]
-    fn an_empty_policy_denies_at_place_0() {
-        assert_eq!(decide(&[], &[], &GRE), Decision { permit: false, place: 0 });
+    fn an_empty_policy_decides_by_its_default_at_place_0() {
+        for permits in [false, true] {
+            assert_eq!(decide(&[], Policy { list: &[], permits }, &GRE), Decision { permit: permits, place: 0 });
+        }
     }
 
     #[test]
     fn ports_are_compared_for_every_protocol() {
-        let rule = permit_port_zero();
-        let permitted = Decision { permit: true, place: 1 };
-        assert_eq!(decide_values(&rule, &[0, 0], &GRE), Ok(permitted));
+        let rules = permit_port_zero();
         let other = Flow { destination_port: 1, ..GRE };
-        assert_eq!(decide_values(&rule, &[0, 0], &other), Ok(Decision { permit: false, place: 0 }));
+        for default in DEFAULTS {
+            let values = PolicyValues { rules: &rules, list: &[0, 0], default };
+            assert_eq!(decide_values(&values, &GRE), Ok(Decision { permit: true, place: 1 }));
+            assert_eq!(decide_values(&values, &other), Ok(Decision { permit: default.is_some(), place: 0 }));
+        }
     }
 
     #[test]
@@ -97,32 +133,53 @@ mod tests {
         let mut deny = permit.clone();
         deny[0] = 0;
         let rules = [permit.as_slice(), deny.as_slice()];
-        assert_eq!(decide(&rules, &[0, 1, 0, 0], &GRE), Decision { permit: false, place: 1 });
-        assert_eq!(decide(&rules, &[0, 0, 0, 1], &GRE), Decision { permit: true, place: 1 });
+        for permits in [false, true] {
+            let decide = |list: &[u8]| decide(&rules, Policy { list, permits }, &GRE);
+            assert_eq!(decide(&[0, 1, 0, 0]), Decision { permit: false, place: 1 });
+            assert_eq!(decide(&[0, 0, 0, 1]), Decision { permit: true, place: 1 });
+        }
+    }
+
+    #[test]
+    fn both_policies_of_a_file_have_its_default() {
+        let file = |default: &[u8]| [&[2, 0, 0, 3, 0, 0], default].concat();
+        for (file, permit) in [(file(&[]), 0), (file(&[6, 0, 1, 1]), 1)] {
+            for of_target in [false, true] {
+                let mut place = [7; 3];
+                assert_eq!(decide_flows_file(&file, of_target, &GRE.bytes(), &mut place), Ok(3));
+                assert_eq!(place, [permit, 0, 0]);
+            }
+        }
     }
 
     #[test]
     fn flows_are_decided_one_by_one() {
-        let rule = permit_port_zero();
+        let rules = permit_port_zero();
         let other = Flow { source_port: 0x0102, destination_port: 0x0304, ..GRE };
         let flows = [GRE.bytes(), other.bytes()].concat();
         assert_eq!(flows[13..], [47, 0, 0, 0, 1, 1, 2, 0, 0, 0, 2, 3, 4]);
-        let mut place = [7; 8];
-        assert_eq!(decide_flows_values(&rule, &[0, 0], &flows, &mut place), Ok(6));
-        assert_eq!(place, [1, 0, 1, 0, 0, 0, 7, 7]);
+        for default in DEFAULTS {
+            let mut place = [7; 8];
+            let values = PolicyValues { rules: &rules, list: &[0, 0], default };
+            assert_eq!(decide_flows_values(&values, &flows, &mut place), Ok(6));
+            assert_eq!(place, [1, 0, 1, u8::from(default.is_some()), 0, 0, 7, 7]);
+        }
     }
 
     #[test]
     fn flows_are_refused_after_the_values_and_before_the_room() {
-        let rule = permit_port_zero();
+        let rules = permit_port_zero();
         let mut place = [7; 2];
-        let mut number = |policy: &[u8], size: usize| {
-            let refusal = decide_flows_values(&rule, policy, &vec![0; size], &mut place).unwrap_err();
+        let mut number = |list: &[u8], default: Option<&[u8]>, size: usize| {
+            let values = PolicyValues { rules: &rules, list, default };
+            let refusal = decide_flows_values(&values, &vec![0; size], &mut place).unwrap_err();
             (refusal.number, refusal.position)
         };
-        assert_eq!(number(&[0, 1], 14), (8, 0));
-        assert_eq!(number(&[0, 0], 14), (4, 0));
-        assert_eq!(number(&[0, 0], 26), (13, 6));
+        assert_eq!(number(&[0, 1], Some(&[]), 14), (8, 0));
+        assert_eq!(number(&[0, 0], Some(&[]), 14), (4, 0));
+        assert_eq!(number(&[0, 0], Some(&[2]), 14), (50, 0));
+        assert_eq!(number(&[0, 0], Some(&[1]), 14), (4, 0));
+        assert_eq!(number(&[0, 0], None, 26), (13, 6));
         assert_eq!(place, [7; 2]);
     }
 }

@@ -1,7 +1,7 @@
 //! The text that `showlist` prints: what a deployment file contains.
 
 use crate::commands::commands_of;
-use crate::file::{read, Contents};
+use crate::file::{permits, read, Contents};
 use crate::format::numbers;
 use crate::text::{command_line, refusal_line};
 use std::net::Ipv4Addr;
@@ -31,8 +31,16 @@ fn range(bytes: &[u8]) -> String {
     }
 }
 
+fn action(permit: bool) -> &'static str {
+    if permit {
+        "permit"
+    } else {
+        "deny"
+    }
+}
+
 fn rule_line(index: usize, rule: &[u8]) -> String {
-    let action = if rule[0] == 1 { "permit" } else { "deny" };
+    let action = action(rule[0] == 1);
     let [protocol, source, source_port, destination, destination_port] =
         [&rule[1..3], &rule[3..11], &rule[11..15], &rule[15..23], &rule[23..27]].map(range);
     format!(
@@ -62,6 +70,7 @@ fn contents_text(contents: &Contents) -> String {
         rules.collect(),
         list_lines("initial", contents.initial),
         list_lines("target", contents.target),
+        format!("default {}\n", action(permits(contents.default))),
         contents.keep.map_or_else(|| absent("keep"), |keep| list_lines("keep", keep)),
         contents.script.map_or_else(|| absent("script"), script_lines),
     ]
@@ -92,10 +101,13 @@ mod tests {
 
     #[test]
     fn what_is_absent_or_empty_is_told() {
-        assert_eq!(show_text(&[2, 0, 0, 3, 0, 0]), "rules 0\ninitial 0\ntarget 0\nkeep absent\nscript absent\n");
         assert_eq!(
-            show_text(&[2, 0, 0, 3, 0, 0, 4, 0, 0, 5, 0, 1, 1]),
-            "rules 0\ninitial 0\ntarget 0\nkeep 0\nscript type 1 commands 0\n"
+            show_text(&[2, 0, 0, 3, 0, 0]),
+            "rules 0\ninitial 0\ntarget 0\ndefault deny\nkeep absent\nscript absent\n"
+        );
+        assert_eq!(
+            show_text(&[2, 0, 0, 3, 0, 0, 6, 0, 1, 1, 4, 0, 0, 5, 0, 1, 1]),
+            "rules 0\ninitial 0\ntarget 0\ndefault permit\nkeep 0\nscript type 1 commands 0\n"
         );
         assert_eq!(show_text(&[]), "refused 3 at 0\n");
     }

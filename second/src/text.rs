@@ -90,6 +90,7 @@ type 2 initial 4 target 4 kept 2 commands 3
             rules: rules.iter().map(Vec::as_slice).collect(),
             initial: &list_value(&[0, 1, 2, 3]),
             target: &list_value(&[1, 0, 4, 3]),
+            default: None,
             keep: None,
             script,
         })

@@ -8,7 +8,7 @@ ghost use Rattle.policy.specs.AppendDelete.{keptRun};
 ghost use Rattle.policy.specs.Lists.{mem};
 ghost use Rattle.policy.specs.Policy.{most-rules, most-listed};
 ghost use Rattle.policy.specs.Properties.{In};
-ghost use Rattle.policy.specs.Claims.{Policy};
+ghost use Rattle.policy.specs.Claims.{Admitted};
 ghost use Rattle.deployment.specs.Values.{numbersOf};
 ghost use Rattle.plans.specs.Sending.{Sent, most-planned, field-bytes};
 ghost use Rattle.append_delete.specs.DeletesAppends.{deletes, appends};
@@ -93,7 +93,7 @@ fn send_appends(target: &[u8], kept: usize, before: u16, field: &mut [u8]) -> u1
 
 // The plan for two policies, in a place for the longest field.
 fn made_one(initial: &[u8], target: &[u8], field: &mut [u8]) -> Plan
-    requires { ⌜ Policy most-rules (numbersOf (now initial)) × (length (numbersOf (now initial)) ≤ most-listed) × (length (numbersOf (now target)) ≤ most-listed)
+    requires { ⌜ Admitted most-rules (numbersOf (now initial)) × (length (numbersOf (now initial)) ≤ most-listed) × (length (numbersOf (now target)) ≤ most-listed)
         × (length (now field) ≡ field-bytes) ⌝ }
     ensures { λ plan. ⌜ Placed (madeOneOf (numbersOf (now (initial .entry))) (numbersOf (now (target .entry)))) plan (now (field .entry)) (now (field .exit)) ⌝ }
 {
@@ -106,7 +106,7 @@ fn made_one(initial: &[u8], target: &[u8], field: &mut [u8]) -> Plan
 
 // The plan for two policies that the reader accepts, in the lent place.
 pub fn plan_one(initial: &[u8], target: &[u8], place: &mut [u8]) -> Planned
-    requires { ⌜ Policy most-rules (numbersOf (now initial)) × (length (numbersOf (now initial)) ≤ most-listed) × (length (numbersOf (now target)) ≤ most-listed) ⌝ }
+    requires { ⌜ Admitted most-rules (numbersOf (now initial)) × (length (numbersOf (now initial)) ≤ most-listed) × (length (numbersOf (now target)) ≤ most-listed) ⌝ }
     ensures { λ r. ⌜ leftBy r (now (place .exit)) ≡ placedPlan (madeOneOf (numbersOf (now (initial .entry))) (numbersOf (now (target .entry)))) (now (place .entry)) ⌝ }
 {
     let mut field = [0u8; FIELD_BYTES];

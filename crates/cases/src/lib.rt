@@ -125,11 +125,13 @@ pub fn print_reading(reading: FileRead) {
         FileRead::Accepted(layout) => {
             let initial = layout.initial;
             let target = layout.target;
+            let default = layout.default;
             let keep = layout.keep;
             let script = layout.script;
             print_number(b"rules ", layout.rules);
             print_span(b" initial", true, initial);
             print_span(b" target", true, target);
+            print_span(b" default", layout.has_default, default);
             print_span(b" keep", layout.has_keep, keep);
             print_span(b" script", layout.has_script, script);
         }

@@ -1,10 +1,12 @@
-// The first-match decision of a flow, over a catalogue and a policy as bytes.
+// The first-match decision of a flow, over a catalogue and the list of a policy as bytes, under a default.
 
 ghost use mathlib.Core.Path.{_≡_};
+ghost use mathlib.Core.Bool.{cond};
 ghost use Prim.Native.Nat.{_+_, _≤_};
 ghost use lib.ListN.{length};
 ghost use Rattle.policy.specs.Rule.{hits, says, matches, lies};
-ghost use Rattle.policy.specs.Policy.{decide, matching};
+ghost use Rattle.policy.specs.declared.Action.the-variants.{Deny, Permit};
+ghost use Rattle.policy.specs.Policy.{under, decide, matching};
 ghost use Rattle.deployment.specs.Values.{numbersOf, ruleOf, rangeAt};
 ghost use Rattle.deployment.specs.Catalogue.{catalogueOf};
 use format::RULE_BYTES;
@@ -85,9 +87,10 @@ fn action(rules: &[u8], skip: u8, n: usize) -> Action
     }
 }
 
-// "A flow is decided by the first rule that matches; if none does, it is denied": action and place, places counted from 1.
-pub fn decided(rules: &[u8], skip: u8, list: &[u8], flow: Flow) -> Decision
-    ensures { λ d. ⌜ d ≡ decide (matching (catalogueOf skip (now (rules .entry))) flow) (numbersOf (now (list .entry))) ⌝ }
+// "A flow is decided by the first rule that matches", and where none does by the default (02, L1: "value 1 means permit, absence means
+// deny"): action and place, "places counted from 1, or place 0 for the default".
+pub fn decided(rules: &[u8], skip: u8, list: &[u8], default: Action, flow: Flow) -> Decision
+    ensures { λ d. ⌜ d ≡ decide (matching (catalogueOf skip (now (rules .entry))) flow) (under default (numbersOf (now (list .entry)))) ⌝ }
 {
     let count = listed(list);
     let mut left = count;
@@ -104,7 +107,14 @@ pub fn decided(rules: &[u8], skip: u8, list: &[u8], flow: Flow) -> Decision
         left -= 1;
     }
     Decision {
-        action: Action::Deny,
+        action: default,
         place: 0,
     }
+}
+
+// "value 1 means permit, absence means deny": the default of a policy, by whether a default that passed its tests is there.
+pub fn default_of(has: bool) -> Action
+    ensures { λ a. ⌜ a ≡ cond has Permit Deny ⌝ }
+{
+    if has { Action::Permit } else { Action::Deny }
 }

@@ -23,9 +23,23 @@ use lib.ListN.{length, length-append}
 use Rattle.policy.specs.Policy.{most-rules}
 use Rattle.policy.specs.Rule.{Rule}
 use Rattle.policy.specs.Claims.{Keepable}
+use Rattle.policy.specs.declared.Action.{Action}
+use Rattle.policy.specs.declared.Action.the-variants.{Deny, Permit}
 use Rattle.deployment.specs.Checked.{Checked, good, bad, _>>=_}
 use Rattle.deployment.specs.Bytes.{chunks, joined}
-use Rattle.deployment.specs.Values.{Script, rule-bytes, ruleBytes, numbersOf, numbersBytes, scriptBytes, listFits, scriptFits}
+use Rattle.deployment.specs.Values.{
+  Script,
+  rule-bytes,
+  default-bytes,
+  ruleBytes,
+  numbersOf,
+  numbersBytes,
+  defaultBytes,
+  defaultField,
+  scriptBytes,
+  listFits,
+  scriptFits,
+}
 use Rattle.deployment.specs.Contents.{Contents, ruleRead, keepRead, scriptRead}
 use Rattle.deployment.specs.File.{accepted}
 use Rattle.deployment.specs.FieldValues.{
@@ -33,6 +47,7 @@ use Rattle.deployment.specs.FieldValues.{
   rulesRead,
   catalogueValue,
   policyValue,
+  defaultValue,
   keepValue,
   scriptValue,
   valuesRead,
@@ -52,7 +67,7 @@ use Rattle.deployment.specs.Properties.{
 }
 use Rattle.deployment.specs.Claims.{valuesOf, AreValues, ValuesWrittenAgain}
 use Rattle.deployment.proofs.Bytes.{length-chunks, chunk-length, joined-chunks, are-bytes-chunk}
-use Rattle.deployment.proofs.Values.{rule-recordable, rule-written, numbers-count, numbers-written}
+use Rattle.deployment.proofs.Values.{rule-recordable, rule-written, numbers-count, numbers-written, default-written}
 use Rattle.deployment.proofs.Scripts.{script-scripted, script-written}
 use Rattle.deployment.proofs.Tests.{
   says-list,
@@ -61,6 +76,7 @@ use Rattle.deployment.proofs.Tests.{
   each-then,
   tested,
   rule-tested,
+  default-tested,
   keep-tested,
   script-tested,
 }
@@ -84,6 +100,9 @@ IsCatalogue value c = Catalogue c × (joined (map ruleBytes c) ≡ value)
 
 abbrev IsPolicy : ℕ → List ℕ → List ℕ → Type 0
 IsPolicy size value policy = Listed size policy × (numbersBytes policy ≡ value)
+
+abbrev IsDefault : Option (List ℕ) → Action → Type 0
+IsDefault value action = elim (defaultField action) [ none ↦ none | some default ↦ some (defaultBytes default) ] ≡ value
 
 abbrev IsKeep : List ℕ → List ℕ → Option (List ℕ) → Option (List ℕ) → Type 0
 IsKeep i t value keep = Keepable i t keep × (elim keep [ none ↦ none | some keep ↦ some (numbersBytes keep) ] ≡ value)
@@ -132,6 +151,14 @@ policy-good size value b =
       numbers-written value (right .0) (right .1) b,
     )) (λ n fails. tt) (policy-right size value)
 
+default-good : (value : Option (List ℕ)) → IfThere AreBytes value → Good (IsDefault value) (defaultValue value)
+unfolding defaultValue defaultField
+default-good none b = refl
+default-good (some value) b =
+    tested (Good (IsDefault (some value))) (eqb (length value) default-bytes) (λ e. tt) λ e.
+    default-tested (Good (IsDefault (some value))) value (λ wrong. tt)
+    (λ is. ap (λ (l : List ℕ). some l) (default-written value b (eqb-true (length value) default-bytes e) is))
+
 keep-good : (i t : List ℕ) (value : Option (List ℕ)) → IfThere AreBytes value → Good (IsKeep i t value) (keepValue i t value)
 unfolding keepValue
 keep-good i t none b = (tt, refl)
@@ -172,12 +199,21 @@ values-good v b =
     good-then (IsPolicy size (v .target)) (AreOf v) (policyValue size (v .target)) _
     (policy-good size (v .target) (b .target))
     λ t target.
+    good-then (IsDefault (v .default)) (AreOf v) (defaultValue (v .default)) _ (default-good (v .default) (b .default))
+    λ d default.
     good-then (IsKeep i t (v .keep)) (AreOf v) (keepValue i t (v .keep)) _ (keep-good i t (v .keep) (b .keep))
     λ k keep.
     good-then (IsScript (v .script)) (AreOf v) (scriptValue (v .script)) _ (script-good (v .script) (b .script))
     λ s script. (
       record { catalogue = rules .0; initial = initial .0; target = target .0; keep = keep .0; script = script .0 },
-      λ j. record { rules = rules .1 j; initial = initial .1 j; target = target .1 j; keep = keep .1 j; script = script .1 j },
+      λ j. record {
+        rules = rules .1 j;
+        initial = initial .1 j;
+        target = target .1 j;
+        default = default j;
+        keep = keep .1 j;
+        script = script .1 j;
+      },
     )
 
 pub values-written-again : ValuesWrittenAgain

@@ -1,5 +1,5 @@
 -- The first 65,536 bytes of a file decide its reading. The idea: a longer file is not accepted, so some field turns it away. The fields
--- before that one have at most 44,045 bytes, and what turns a field away lies in its head or, once its length is right, in its
+-- before that one have at most 44,049 bytes, and what turns a field away lies in its head or, once its length is right, in its
 -- 10,241 bytes at most: all of it in front of byte 65,536. Assumes nothing.
 use Prim.Native.Nat.{ℕ, _+_, _-_, _≤_, _<_}
 use native.Mathlib.Omega.{arith}
@@ -38,6 +38,7 @@ use Rattle.deployment.specs.Properties.{
   names-twice,
   keep-astray,
   wrong-coding,
+  wrong-default,
   TurnedAway,
 }
 use Rattle.deployment.specs.Claims.{deciding, LongFile, LongFileToJudge}
@@ -56,7 +57,7 @@ part-in-front start size front rest h =
 
 -- a right length has at most 10,241 bytes
 right-few : {tag size : ℕ} → RightLength tag size → size ≤ 10241
-right-few = ⊎-elim (λ h. omega arith) (⊎-elim (λ h. omega arith) (λ h. omega arith))
+right-few = ⊎-elim (λ h. omega arith) (⊎-elim (λ h. omega arith) (⊎-elim (λ h. omega arith) (λ h. omega arith)))
 
 -- What turns the next field away lies in its first 10,244 bytes.
 module _ (f : Fields) (front rest : List ℕ) (long : 10244 ≤ length front) where
@@ -108,9 +109,11 @@ module _ (f : Fields) (front rest : List ℕ) (long : 10244 ≤ length front) wh
       keep-astray (whole-front whole) (rw same-tag at e) (rw (same-value whole) at astray)
   fails-front (wrong-coding whole e wrong) =
       wrong-coding (whole-front whole) (rw same-tag at e) (rw (same-value whole) at wrong)
+  fails-front (wrong-default whole e wrong) =
+      wrong-default (whole-front whole) (rw same-tag at e) (rw (same-value whole) at wrong)
 
--- A file that is longer than the fields before a field and the most bytes that turn it away, 44,045 and 10,244.
-module _ (most : ℕ) (enough : 54289 ≤ most) where
+-- A file that is longer than the fields before a field and the most bytes that turn it away, 44,049 and 10,244.
+module _ (most : ℕ) (enough : 54293 ≤ most) where
   turned-by-first : (file : List ℕ) (number at : ℕ) → most ≤ length file → TurnedAway file number at
       → TurnedAway (take most file) number at
   turned-by-first file number at long h =

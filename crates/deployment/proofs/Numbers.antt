@@ -29,11 +29,12 @@ use Rattle.deployment.specs.declared.Why.the-variants.{
   Coding,
   NoScript,
   Room,
+  Default,
 }
 
 abbrev whys : List Why
 whys = Cut ∷ Tag ∷ NoTarget ∷ Length ∷ Bounds ∷ Equal ∷ TooMany
-    ∷ Outside ∷ Twice ∷ Keep ∷ Coding ∷ NoScript ∷ Room ∷ []
+    ∷ Outside ∷ Twice ∷ Keep ∷ Coding ∷ NoScript ∷ Room ∷ Default ∷ []
 
 why-again : (why : Why) → numbered whyNumber whys (whyNumber why) ≡ some why
 unfolding numbered
@@ -50,25 +51,34 @@ why-again Keep = refl
 why-again Coding = refl
 why-again NoScript = refl
 why-again Room = refl
+why-again Default = refl
 
 pub why-numbers-differ : WhyNumbersDiffer
 why-numbers-differ = told-apart whyNumber (numbered whyNumber whys) why-again
 
--- the table's last number before those of commands
-pub why-small : (why : Why) → whyNumber why ≤ 13
-why-small Cut = omega arith
-why-small Tag = omega arith
-why-small NoTarget = omega arith
-why-small Length = omega arith
-why-small Bounds = omega arith
-why-small Equal = omega arith
-why-small TooMany = omega arith
-why-small Outside = omega arith
-why-small Twice = omega arith
-why-small Keep = omega arith
-why-small Coding = omega arith
-why-small NoScript = omega arith
-why-small Room = omega arith
+-- the table's last number before those of commands, or the number of a default
+pub why-numbers : (why : Why) → (whyNumber why ≤ 13) ⊎ (whyNumber why ≡ 50)
+why-numbers Cut = inl (omega arith)
+why-numbers Tag = inl (omega arith)
+why-numbers NoTarget = inl (omega arith)
+why-numbers Length = inl (omega arith)
+why-numbers Bounds = inl (omega arith)
+why-numbers Equal = inl (omega arith)
+why-numbers TooMany = inl (omega arith)
+why-numbers Outside = inl (omega arith)
+why-numbers Twice = inl (omega arith)
+why-numbers Keep = inl (omega arith)
+why-numbers Coding = inl (omega arith)
+why-numbers NoScript = inl (omega arith)
+why-numbers Room = inl (omega arith)
+why-numbers Default = inr refl
+
+pub why-small : (why : Why) → whyNumber why ≤ 50
+why-small why = ⊎-elim (λ low. omega arith) (λ is. omega arith) (why-numbers why)
+
+-- no refusal has a number between: those are of commands and verdicts
+pub why-apart : (why : Why) → 20 ≤ whyNumber why → 50 ≤ whyNumber why
+why-apart why large = ⊎-elim (λ low. omega arith) (λ is. omega arith) (why-numbers why)
 
 -- a number and a position
 pub both-same : {n m p q : ℕ} → _≡_ {A = List ℕ} (n ∷ p ∷ []) (m ∷ q ∷ []) → (n ≡ m) × (p ≡ q)

@@ -32,18 +32,30 @@ use Rattle.policy.specs.Lists.{mem}
 use Rattle.policy.specs.Policy.{most-rules, most-listed}
 use Rattle.policy.specs.Rule.{Rule}
 use Rattle.policy.specs.Claims.{Keepable}
-use Rattle.policy.proofs.Tests.{or-left}
+use Rattle.policy.specs.declared.Action.{Action}
+use Rattle.policy.specs.declared.Action.the-variants.{Deny, Permit}
 use Rattle.policy.proofs.Lists.{in-all, mem-in, in-mem}
 use Rattle.policy.proofs.Order.{distinct-differ, sublist-occurs, sublist-in, sublist-distinct, within-length}
 use Rattle.deployment.specs.Checked.{good}
 use Rattle.deployment.specs.Bytes.{number, bytesOf, part, joined}
-use Rattle.deployment.specs.Values.{Script, ruleBytes, numbersBytes, scriptBytes, listFits, scriptFits}
-use Rattle.deployment.specs.Contents.{Contents, ruleRead, policyRead, keepRead, scriptRead}
+use Rattle.deployment.specs.Values.{
+  Script,
+  ruleBytes,
+  numbersBytes,
+  defaultFits,
+  defaultBytes,
+  defaultField,
+  scriptBytes,
+  listFits,
+  scriptFits,
+}
+use Rattle.deployment.specs.Contents.{Contents, ruleRead, policyRead, defaultRead, keepRead, scriptRead}
 use Rattle.deployment.specs.File.{
   Fields,
   rulesOnly,
   setInitial,
   setTarget,
+  setDefault,
   setKeep,
   setScript,
   nothing,
@@ -51,6 +63,7 @@ use Rattle.deployment.specs.File.{
   rule-tag,
   initial-tag,
   target-tag,
+  default-tag,
   keep-tag,
   script-tag,
   tagsAfter,
@@ -60,6 +73,7 @@ use Rattle.deployment.specs.File.{
   fieldRead,
   withRule,
   withPolicy,
+  withDefault,
   withKeep,
   withScript,
   withField,
@@ -74,6 +88,7 @@ use Rattle.deployment.specs.FieldValues.{
   rulesRead,
   catalogueValue,
   policyValue,
+  defaultValue,
   keepValue,
   scriptValue,
   valuesRead,
@@ -89,9 +104,13 @@ use Rattle.deployment.specs.Properties.{
   Scripted,
   IfThere,
   Valid,
+  CanStand,
   upToInitial,
+  upToTarget,
+  upToDefault,
   upToKeep,
   PolicyBehind,
+  DefaultBehind,
   KeepBehind,
   ScriptBehind,
   Readable,
@@ -111,6 +130,10 @@ use Rattle.deployment.proofs.Values.{
   not-known,
   length-numbers,
   numbers-are-bytes,
+  length-default,
+  default-are-bytes,
+  default-read,
+  default-back,
   policy-numbers,
   keep-numbers,
 }
@@ -131,6 +154,10 @@ policy-reads size policy few h =
       in-all (λ r. ltb r size) policy (λ r t. lt-ltb r size (h .sound .inside r t)),
       distinct-differ policy (h .sound .distinct),
     )
+
+pub default-reads : defaultRead (defaultBytes Permit) ≡ good Permit
+unfolding defaultRead defaultFits
+default-reads = rw default-read
 
 pub keep-reads : (size : ℕ) (initial target keep : List ℕ) → size ≤ most-rules → Listed size target
     → Sublistᴰ keep initial → Sublistᴰ keep target → keepRead initial target (numbersBytes keep) ≡ good keep
@@ -270,18 +297,39 @@ through-policy set tag f small few other fits by-tag same (some policy) h =
     through-field f tag (numbersBytes policy) small (omega (arith, length-numbers policy, h .1 .few)) (in-mem _ _ (h .0)) other
     (fits _ ∙ list-fits policy (h .1 .few)) (by-tag _ ∙ rw (policy-reads (length (f .catalogue)) policy few (h .1)))
 
-module _ (c : List Rule) (few : length c ≤ most-rules) where
-  through-keep : (initial target keep : Option (List ℕ)) → let f = setTarget (setInitial (rulesOnly c) initial) target in
-      IfThere (PolicyBehind (setInitial (rulesOnly c) initial) target-tag) target → IfThere (KeepBehind f) keep
-      → Through f (ifThere keep-tag numbersBytes keep) (setKeep f keep)
-  unfolding ifThere lengthFits withField withKeep listed lastTag tagOr
-  through-keep initial target none h k = through-none
-  through-keep initial none (some keep) h k = absurd (late initial keep-tag (omega arith) (k .0))
-  through-keep initial (some target) (some keep) h k =
-      let short = keep-few (length c) target keep (h .1) (k .2) in
-      through-field (setTarget (setInitial (rulesOnly c) initial) (some target)) keep-tag (numbersBytes keep) (omega arith)
-      (omega (arith, length-numbers keep)) (in-mem _ _ (k .0)) refl (list-fits keep short)
-      (rw (keep-reads (length c) (listed initial) target keep few (h .1) (k .1) (k .2)))
+through-default : (f : Fields) (default : Option Action) → IfThere (DefaultBehind f) default
+    → f .default ≡ none → Through f (ifThere default-tag defaultBytes default) (setDefault f default)
+unfolding ifThere lengthFits withField withDefault
+through-default f none h absent = rw (← absent) through-none
+through-default f (some default) h absent =
+    let long = length-default default in
+    through-field f default-tag (defaultBytes default) (omega arith) (omega arith) (in-mem _ _ (h .0)) refl (rw long)
+    (rw (h .1, default-reads))
+
+-- a keep list stands behind a target
+target-listed : (f : Fields) → Readable f → CanStand (upToDefault f) keep-tag → Listed (length (f .catalogue)) (listed (f .target))
+unfolding listed lastTag tagOr
+target-listed f r = go (f .initial) (f .target) (f .default) (r .target) (r .default)
+  where
+    go : (initial target : Option (List ℕ)) (default : Option Action) → let g = setInitial (rulesOnly (f .catalogue)) initial in
+        IfThere (PolicyBehind g target-tag) target → IfThere (DefaultBehind (setTarget g target)) default
+        → CanStand (setDefault (setTarget g target) default) keep-tag → Listed (length (f .catalogue)) (listed target)
+    go initial (some target) default t d k = t .1
+    go initial none none t d k = absurd (late initial keep-tag (omega arith) k)
+    go initial none (some default) t d k = absurd (late initial default-tag (omega arith) (d .0))
+
+through-keep : (f : Fields) (keep : Option (List ℕ)) → length (f .catalogue) ≤ most-rules
+    → (CanStand f keep-tag → Listed (length (f .catalogue)) (listed (f .target))) → IfThere (KeepBehind f) keep
+    → f .keep ≡ none → Through f (ifThere keep-tag numbersBytes keep) (setKeep f keep)
+unfolding ifThere lengthFits withField withKeep
+through-keep f none few sound h absent = rw (← absent) through-none
+through-keep f (some keep) few sound h absent =
+    let target = listed (f .target) in
+    let listed-there = sound (h .0) in
+    let short = keep-few (length (f .catalogue)) target keep listed-there (h .2) in
+    through-field f keep-tag (numbersBytes keep) (omega arith)
+    (omega (arith, length-numbers keep)) (in-mem _ _ (h .0)) refl (list-fits keep short)
+    (rw (keep-reads (length (f .catalogue)) (listed (f .initial)) target keep few listed-there (h .1) (h .2)))
 
 through-script : (f : Fields) (script : Option Script) → IfThere (ScriptBehind f) script
     → f .script ≡ none → Through f (ifThere script-tag scriptBytes script) (setScript f script)
@@ -289,7 +337,7 @@ unfolding ifThere lengthFits withField withScript
 through-script f none h absent = rw (← absent) through-none
 through-script f (some script) h absent =
     through-field f script-tag (scriptBytes script) (omega arith)
-    (omega (arith, length-script script, h .1 .few)) (in-mem _ _ (h .0)) refl (or-left false (script-fits script (h .1)))
+    (omega (arith, length-script script, h .1 .few)) (in-mem _ _ (h .0)) refl (script-fits script (h .1))
     (rw (script-reads script (h .1)))
 
 -- the bytes of fields that can have been read lead the reader to those fields
@@ -303,8 +351,9 @@ through-fields f h =
     (through-policy setInitial initial-tag (rulesOnly c) (omega arith) few refl (λ n. refl) (λ value. refl) refl (f .initial) (h .initial))
     (through-both
     (through-policy setTarget target-tag (upToInitial f) (omega arith) few refl (λ n. refl) (λ value. refl) refl (f .target) (h .target))
-    (through-both (through-keep c few (f .initial) (f .target) (f .keep) (h .target) (h .keep))
-    (through-script (upToKeep f) (f .script) (h .script) refl))))
+    (through-both (through-default (upToTarget f) (f .default) (h .default) refl)
+    (through-both (through-keep (upToDefault f) (f .keep) few (target-listed f h) (h .keep) refl)
+    (through-script (upToKeep f) (f .script) (h .script) refl)))))
 
 pub read-through : (f : Fields) (left : List ℕ) → Readable f
     → readFrom 0 nothing 0 (fieldsBytes f ++ left) ≡ readFrom 0 f (length (fieldsBytes f)) left
@@ -335,38 +384,54 @@ file-are-bytes c =
     are-bytes-append _ _ (rules-are-bytes (c .catalogue))
     (are-bytes-append _ _ (field-are-bytes initial-tag (numbersBytes (c .initial)) (numbers-are-bytes (c .initial)))
     (are-bytes-append _ _ (field-are-bytes target-tag (numbersBytes (c .target)) (numbers-are-bytes (c .target)))
+    (are-bytes-append _ _ (there-are-bytes default-tag defaultBytes (defaultField (c .default)) default-are-bytes)
     (are-bytes-append _ _ (there-are-bytes keep-tag numbersBytes (c .keep) numbers-are-bytes)
-    (there-are-bytes script-tag scriptBytes (c .script) script-are-bytes))))
+    (there-are-bytes script-tag scriptBytes (c .script) script-are-bytes)))))
 
 -- the fields of contents, and that they can have been read
 unfoldable pub fieldsOf : Contents → Fields
 fieldsOf c =
-    record { catalogue = c .catalogue; initial = some (c .initial); target = some (c .target); keep = c .keep; script = c .script }
+    record {
+      catalogue = c .catalogue;
+      initial = some (c .initial);
+      target = some (c .target);
+      default = defaultField (c .default);
+      keep = c .keep;
+      script = c .script;
+    }
 
 pub valid-readable : (c : Contents) → Valid c → Readable (fieldsOf c)
-unfolding fieldsOf listed tagsAfter tagOr lastTag mem
+unfolding fieldsOf defaultField listed tagsAfter tagOr lastTag mem
 valid-readable c h =
     record {
       catalogue = h .catalogue;
       initial = (stands initial-tag rule-tag refl, h .initial);
       target = (stands target-tag initial-tag refl, h .target);
-      keep = kept (c .initial) (c .target) (c .keep) (h .keep);
-      script = scripted (c .keep) (c .script) (h .script);
+      default = defaulted (c .default);
+      keep = kept (c .initial) (c .target) (defaultField (c .default)) (c .keep) (h .keep);
+      script = scripted (defaultField (c .default)) (c .keep) (c .script) (h .script);
     }
   where
     stands : (tag last : ℕ) → mem tag (tagsAfter last) ≡ true → List·Memᴰ tag (tagsAfter last)
     stands tag last e = mem-in tag (tagsAfter last) e
 
-    kept : (initial target : List ℕ) (keep : Option (List ℕ)) → Keepable initial target keep
-        → IfThere (λ keep. List·Memᴰ keep-tag (tagsAfter target-tag) × Sublistᴰ keep initial × Sublistᴰ keep target) keep
-    kept initial target none k = tt
-    kept initial target (some keep) k = (stands keep-tag target-tag refl, k .0, k .1)
+    defaulted : (default : Action)
+        → IfThere (λ action. List·Memᴰ default-tag (tagsAfter target-tag) × (action ≡ Permit)) (defaultField default)
+    defaulted Deny = tt
+    defaulted Permit = (stands default-tag target-tag refl, refl)
 
-    scripted : (keep : Option (List ℕ)) (script : Option Script) → IfThere Scripted script
-        → IfThere (λ script. List·Memᴰ script-tag (tagsAfter (tagOr keep-tag keep target-tag)) × Scripted script) script
-    scripted keep none k = tt
-    scripted none (some script) k = (stands script-tag target-tag refl, k)
-    scripted (some l) (some script) k = (stands script-tag keep-tag refl, k)
+    kept : (initial target : List ℕ) (default : Option Action) (keep : Option (List ℕ)) → Keepable initial target keep
+        → IfThere (λ keep. List·Memᴰ keep-tag (tagsAfter (tagOr default-tag default target-tag)) × Sublistᴰ keep initial × Sublistᴰ keep target) keep
+    kept initial target default none k = tt
+    kept initial target none (some keep) k = (stands keep-tag target-tag refl, k .0, k .1)
+    kept initial target (some action) (some keep) k = (stands keep-tag default-tag refl, k .0, k .1)
+
+    scripted : (default : Option Action) (keep : Option (List ℕ)) (script : Option Script) → IfThere Scripted script
+        → IfThere (λ script. List·Memᴰ script-tag (tagsAfter (tagOr keep-tag keep (tagOr default-tag default target-tag))) × Scripted script) script
+    scripted default keep none k = tt
+    scripted none none (some script) k = (stands script-tag target-tag refl, k)
+    scripted (some action) none (some script) k = (stands script-tag default-tag refl, k)
+    scripted default (some l) (some script) k = (stands script-tag keep-tag refl, k)
 
 pub file-fields : (c : Contents) → fileOf c ≡ fieldsBytes (fieldsOf c)
 unfolding fileOf fieldsBytes fieldsOf ifThere
@@ -377,10 +442,11 @@ unfolding readFile readFrom atEnd listed fieldsOf
 read-back c h = (
   file-are-bytes c,
   ap (readFrom 0 nothing 0) (file-fields c ∙ sym (append-nil (fieldsBytes (fieldsOf c))))
-      ∙ read-through (fieldsOf c) [] (valid-readable c h),
+      ∙ read-through (fieldsOf c) [] (valid-readable c h)
+      ∙ rw (default-back (c .default)),
 )
 
--- "An accepted file never exceeds 44,045 bytes": 1,024 rules of 30, two policies and a keep list of 1,027, a script of 10,244.
+-- "An accepted file never exceeds 44,049 bytes": 1,024 rules of 30, two policies and a keep list of 1,027, a default of 4, a script of 10,244.
 pub rule-fields-wide : (catalogue : List Rule) (piece : List ℕ) → List·Memᴰ piece (map ruleField catalogue) → length piece ≡ 30
 rule-fields-wide catalogue piece t =
     let at = Memᴰ·of-map ruleField catalogue t in
@@ -401,43 +467,48 @@ unfolding ifThere
 list-length tag none h = omega arith
 list-length tag (some l) h = omega (arith, length-field tag (numbersBytes l), length-numbers l)
 
+default-length : (default : Option Action) → length (ifThere default-tag defaultBytes default) ≤ 4
+unfolding ifThere
+default-length none = omega arith
+default-length (some default) = omega (arith, length-field default-tag (defaultBytes default), length-default default)
+
 script-length : (script : Option Script) → IfThere Scripted script → length (ifThere script-tag scriptBytes script) ≤ 10244
 unfolding ifThere
 script-length none h = omega arith
 script-length (some script) h = omega (arith, length-field script-tag (scriptBytes script), length-script script, h .few)
 
-kept-few : (c : List Rule) (initial target keep : Option (List ℕ)) → let f = setInitial (rulesOnly c) initial in
-    IfThere (PolicyBehind f target-tag) target → IfThere (KeepBehind (setTarget f target)) keep
-    → IfThere (λ l. length l ≤ most-listed) keep
-unfolding listed lastTag tagOr
-kept-few c initial target none h k = tt
-kept-few c initial none (some keep) h k = absurd (late initial keep-tag (omega arith) (k .0))
-kept-few c initial (some target) (some keep) h k = keep-few (length c) target keep (h .1) (k .2)
+kept-few : (f : Fields) → Readable f → IfThere (λ l. length l ≤ most-listed) (f .keep)
+kept-few f r =
+    there-too (KeepBehind (upToDefault f)) (λ l. length l ≤ most-listed)
+    (λ keep k. keep-few (length (f .catalogue)) (listed (f .target)) keep (target-listed f r (k .0)) (k .2)) (f .keep) (r .keep)
 
-pub fields-fit : (f : Fields) → Readable f → length (fieldsBytes f) ≤ 44045
+pub fields-fit : (f : Fields) → Readable f → length (fieldsBytes f) ≤ 44049
 unfolding fieldsBytes
 fields-fit f h =
     let few : List ℕ → Type 0 = λ l. length l ≤ most-listed in
     let rules = joined (map ruleField (f .catalogue)) in
     let initial = ifThere initial-tag numbersBytes (f .initial) in
     let target = ifThere target-tag numbersBytes (f .target) in
+    let default = ifThere default-tag defaultBytes (f .default) in
     let keep = ifThere keep-tag numbersBytes (f .keep) in
     let script = ifThere script-tag scriptBytes (f .script) in
     omega (
       arith,
-      length-append rules (initial ++ (target ++ (keep ++ script))),
-      length-append initial (target ++ (keep ++ script)),
-      length-append target (keep ++ script),
+      length-append rules (initial ++ (target ++ (default ++ (keep ++ script)))),
+      length-append initial (target ++ (default ++ (keep ++ script))),
+      length-append target (default ++ (keep ++ script)),
+      length-append default (keep ++ script),
       length-append keep script,
       rules-length (f .catalogue),
       h .catalogue .few,
       list-length initial-tag (f .initial) (there-too (PolicyBehind _ initial-tag) few (λ l k. k .1 .few) (f .initial) (h .initial)),
       list-length target-tag (f .target) (there-too (PolicyBehind (upToInitial f) target-tag) few (λ l k. k .1 .few) (f .target) (h .target)),
-      list-length keep-tag (f .keep) (kept-few (f .catalogue) (f .initial) (f .target) (f .keep) (h .target) (h .keep)),
+      default-length (f .default),
+      list-length keep-tag (f .keep) (kept-few f h),
       script-length (f .script) (there-too (ScriptBehind (upToKeep f)) Scripted (λ s k. k .1) (f .script) (h .script)),
     )
 
-pub valid-fits : (c : Contents) → Valid c → length (fileOf c) ≤ 44045
+pub valid-fits : (c : Contents) → Valid c → length (fileOf c) ≤ 44049
 valid-fits c h = rw (file-fields c) (fields-fit (fieldsOf c) (valid-readable c h))
 
 -- The field values of valid contents.
@@ -459,6 +530,12 @@ catalogue-back catalogue h =
     let short : leb (length value) 27648 ≡ true = le-leb (length value) 27648 (omega arith) in
     let counted : length value / 27 ≡ length catalogue = omega arith in
     rw (whole, short, counted, rules-apart catalogue) (rules-back [] catalogue h)
+
+default-values-back : (default : Action)
+    → defaultValue (elim (defaultField default) [ none ↦ none | some default ↦ some (defaultBytes default) ]) ≡ good default
+unfolding defaultValue defaultField
+default-values-back Deny = refl
+default-values-back Permit = rw (length-default Permit, default-reads)
 
 keep-back : (size : ℕ) (initial target : List ℕ) (keep : Option (List ℕ)) → size ≤ most-rules → Listed size target
     → Keepable initial target keep
@@ -485,6 +562,7 @@ values-read-back c h =
       policy-reads size (c .initial) few (h .initial),
       list-fits (c .target) (h .target .few),
       policy-reads size (c .target) few (h .target),
+      default-values-back (c .default),
       keep-back size (c .initial) (c .target) (c .keep) few (h .target) (h .keep),
       script-back (c .script) (h .script),
     )

@@ -4,7 +4,7 @@ use Prim.Native.Nat.{ℕ, zero, suc, _+_, _-_, _≤_, _<_, zero-le}
 use native.Mathlib.Omega.{arith}
 use mathlib.Core.Path.{_≡_, refl, sym, _∙_, ap, subst}
 use mathlib.Core.Bool.{Bool, true, false, not, _&&_}
-use mathlib.Core.Logic.{⊎-elim, _↔_}
+use mathlib.Core.Logic.{_⊎_, inl, inr, ⊎-elim, _↔_}
 use mathlib.Core.List.{List, [], _∷_, _++_, append-nil, List·Memᴰ·not-nil}
 use mathlib.Core.Option.{Option, none, some}
 use lib.ListN.{length, drop, length-append, length-drop}
@@ -13,11 +13,13 @@ use Rattle.policy.specs.Lists.{mem}
 use Rattle.policy.specs.Policy.{most-rules}
 use Rattle.policy.specs.Rule.{Rule}
 use Rattle.policy.specs.Claims.{Keepable}
+use Rattle.policy.specs.declared.Action.{Action}
+use Rattle.policy.specs.declared.Action.the-variants.{Permit}
 use Rattle.policy.proofs.Lists.{not-mem}
 use Rattle.deployment.specs.Checked.{Checked, good, bad, _>>=_, whyNumber, refusalNumbers}
 use Rattle.deployment.specs.Bytes.{joined}
 use Rattle.deployment.specs.Values.{Script}
-use Rattle.deployment.specs.Contents.{Contents, ruleRead, policyRead, keepRead, scriptRead}
+use Rattle.deployment.specs.Contents.{Contents, ruleRead, policyRead, defaultRead, keepRead, scriptRead}
 use Rattle.deployment.specs.File.{
   Fields,
   nothing,
@@ -30,6 +32,7 @@ use Rattle.deployment.specs.File.{
   fieldRead,
   withRule,
   withPolicy,
+  withDefault,
   withKeep,
   withScript,
   withField,
@@ -47,6 +50,7 @@ use Rattle.deployment.specs.File.{
   rule-tag,
   initial-tag,
   target-tag,
+  default-tag,
   keep-tag,
   head-bytes,
 }
@@ -57,7 +61,9 @@ use Rattle.deployment.specs.Properties.{
   IfThere,
   There,
   upToTarget,
+  upToDefault,
   upToKeep,
+  DefaultBehind,
   KeepBehind,
   ScriptBehind,
   Readable,
@@ -78,6 +84,7 @@ use Rattle.deployment.specs.Properties.{
   names-twice,
   keep-astray,
   wrong-coding,
+  wrong-default,
   TurnedAway,
 }
 use Rattle.deployment.specs.Claims.{WrittenAgain, Refused, RefusedWithoutScript, AcceptedFileFits}
@@ -85,8 +92,8 @@ use Rattle.deployment.specs.declared.Why.{Why}
 use Rattle.deployment.specs.declared.Refusal.{Refusal}
 use Rattle.deployment.proofs.Numbers.{both-same, reading-numbers-say}
 use Rattle.deployment.proofs.Bytes.{are-bytes-drop, length-part}
-use Rattle.deployment.proofs.Values.{byOption}
-use Rattle.deployment.proofs.Tests.{Each, Turns, each-then, tested, rule-tested, policy-tested, keep-tested, script-tested}
+use Rattle.deployment.proofs.Values.{byOption, default-there}
+use Rattle.deployment.proofs.Tests.{Each, Turns, each-then, tested, rule-tested, policy-tested, default-tested, keep-tested, script-tested}
 use Rattle.deployment.proofs.Fields.{fields}
 use Rattle.deployment.proofs.Taken.{ValueRight, taken, whole-read, taken-right, fails-taken}
 use Rattle.deployment.proofs.ReadBack.{pass-over, read-through, there-too, valid-fits}
@@ -133,20 +140,21 @@ turned-away : (f : Fields) (left : List ℕ) {number : ℕ} → Readable f → F
     → TurnedAway (fieldsBytes f ++ left) number (length (fieldsBytes f))
 turned-away f left r fails = record { fields = f; left = left; is = refl; readable = r; counted = refl; fails = fails }
 
-keepable : (f : Fields) (keep : Option (List ℕ)) → IfThere (KeepBehind (upToTarget f)) keep → Keepable (listed (f .initial)) (listed (f .target)) keep
+keepable : (f : Fields) (keep : Option (List ℕ)) → IfThere (KeepBehind (upToDefault f)) keep → Keepable (listed (f .initial)) (listed (f .target)) keep
 keepable f none h = tt
 keepable f (some k) h = (h .1, h .2)
 
 end-right : (f : Fields) → Readable f → ReadingRight (fieldsBytes f ++ []) (atEnd f (length (fieldsBytes f)))
 unfolding atEnd fieldsBytes ifThere fileOf listed tagsAfter tagOr lastTag mem
-end-right f r = go (f .catalogue) (f .initial) (f .target) (f .keep) (f .script) r
+end-right f r = go (f .catalogue) (f .initial) (f .target) (f .default) (f .keep) (f .script) r
   where
-    go : (c : List Rule) (i t k : Option (List ℕ)) (s : Option Script)
-        → let f = fields c i t k s in Readable f → ReadingRight (fieldsBytes f ++ []) (atEnd f (length (fieldsBytes f)))
-    go c i none k s r = turned-away _ [] r (no-target refl (λ h. h))
-    go c none (some t) k s r = absurd (not-mem target-tag (tagsAfter rule-tag) refl (r .target .0))
-    go c (some i) (some t) k s r =
-        let f = fields c (some i) (some t) k s in (
+    go : (c : List Rule) (i t : Option (List ℕ)) (d : Option Action) (k : Option (List ℕ)) (s : Option Script)
+        → let f = fields c i t d k s in Readable f → ReadingRight (fieldsBytes f ++ []) (atEnd f (length (fieldsBytes f)))
+    go c i none d k s r = turned-away _ [] r (no-target refl (λ h. h))
+    go c none (some t) d k s r = absurd (not-mem target-tag (tagsAfter rule-tag) refl (r .target .0))
+    go c (some i) (some t) d k s r =
+        let f = fields c (some i) (some t) d k s in
+        let permit = there-too (DefaultBehind (upToTarget f)) (λ action. action ≡ Permit) (λ action h. h .1) d (r .default) in (
           record {
             catalogue = r .catalogue;
             initial = r .initial .1;
@@ -154,7 +162,7 @@ end-right f r = go (f .catalogue) (f .initial) (f .target) (f .keep) (f .script)
             keep = keepable f k (r .keep);
             script = there-too (ScriptBehind (upToKeep f)) Scripted (λ s h. h .1) s (r .script);
           },
-          sym (append-nil (fieldsBytes f)),
+          rw (default-there d permit) (sym (append-nil (fieldsBytes f))),
         )
 
 -- a reading that goes on is right where every later one is: a field is turned away, or is passed and its bytes join those so far
@@ -190,6 +198,7 @@ nothing-readable =
       catalogue = record { few = zero-le; recordable = λ rule h. absurd (List·Memᴰ·not-nil h); unlike = tt };
       initial = tt;
       target = tt;
+      default = tt;
       keep = tt;
       script = tt;
     }
@@ -218,6 +227,7 @@ fails-at-end f (names-outside whole e out) = absurd (omega arith)
 fails-at-end f (names-twice whole e inside same) = absurd (omega arith)
 fails-at-end f (keep-astray whole e astray) = absurd (omega arith)
 fails-at-end f (wrong-coding whole e wrong) = absurd (omega arith)
+fails-at-end f (wrong-default whole e wrong) = absurd (omega arith)
 
 absent : {A : Type 0} (o : Option A) → ¬ There o → o ≡ none
 absent none h = refl
@@ -255,77 +265,83 @@ refusal-row file refusal b =
     let row = refusals file (whyNumber (refusal .why)) (refusal .at) b in
     (λ e. row .0 (says .1 e), λ h. says .0 (row .1 h))
 
--- Refusal 12 is none of the reader's: the numbers of those are below it.
-abbrev Below : Why → Type 0
-Below why = whyNumber why < 12
+-- Refusals 12 and 13 are none of the reader's: its own numbers are those up to 11, and 50.
+abbrev OwnNumber : ℕ → Type 0
+OwnNumber number = (number ≤ 11) ⊎ (number ≡ 50)
 
-abbrev AllBelow : {A : Type 0} → Checked A → Type 0
-AllBelow = Each (λ a. Unit {0}) Below
+abbrev Own : Why → Type 0
+Own why = OwnNumber (whyNumber why)
 
-below-then : {A B : Type 0} (read : Checked A) (next : A → Checked B) → AllBelow read → ((a : A) → AllBelow (next a))
-    → AllBelow (_>>=_ read next)
-below-then read next h others = each-then (λ a. Unit {0}) (λ b. Unit {0}) Below read next h (λ a t. others a)
+abbrev AllOwn : {A : Type 0} → Checked A → Type 0
+AllOwn = Each (λ a. Unit {0}) Own
 
-head-below : (f : Fields) (left : List ℕ) → AllBelow (fieldRead f left)
+own-then : {A B : Type 0} (read : Checked A) (next : A → Checked B) → AllOwn read → ((a : A) → AllOwn (next a))
+    → AllOwn (_>>=_ read next)
+own-then read next h others = each-then (λ a. Unit {0}) (λ b. Unit {0}) Own read next h (λ a t. others a)
+
+head-own : (f : Fields) (left : List ℕ) → AllOwn (fieldRead f left)
 unfolding fieldRead
-head-below f left =
-    tested AllBelow (leb head-bytes (length left)) (λ e. omega arith) λ e.
-    tested AllBelow (mem (tagOf left) (tagsAfter (lastTag f))) (λ e. omega arith) λ e.
-    tested AllBelow (not (eqb (tagOf left) rule-tag && leb most-rules (length (f .catalogue)))) (λ e. omega arith) λ e.
-    tested AllBelow (lengthFits (tagOf left) (sizeOf left)) (λ e. omega arith) λ e.
-    tested AllBelow (leb (head-bytes + sizeOf left) (length left)) (λ e. omega arith) λ e. tt
+head-own f left =
+    tested AllOwn (leb head-bytes (length left)) (λ e. inl (omega arith)) λ e.
+    tested AllOwn (mem (tagOf left) (tagsAfter (lastTag f))) (λ e. inl (omega arith)) λ e.
+    tested AllOwn (not (eqb (tagOf left) rule-tag && leb most-rules (length (f .catalogue)))) (λ e. inl (omega arith)) λ e.
+    tested AllOwn (lengthFits (tagOf left) (sizeOf left)) (λ e. inl (omega arith)) λ e.
+    tested AllOwn (leb (head-bytes + sizeOf left) (length left)) (λ e. inl (omega arith)) λ e. tt
 
-rule-below : (c : List Rule) (value : List ℕ) → AllBelow (ruleRead c value)
-rule-below c value = rule-tested AllBelow c value (λ h. omega arith) (λ h k. omega arith) (λ h k. tt)
+rule-own : (c : List Rule) (value : List ℕ) → AllOwn (ruleRead c value)
+rule-own c value = rule-tested AllOwn c value (λ h. inl (omega arith)) (λ h k. inl (omega arith)) (λ h k. tt)
 
-policy-below : (size : ℕ) (value : List ℕ) → AllBelow (policyRead size value)
-policy-below size value = policy-tested AllBelow size value (λ h. omega arith) (λ h k. omega arith) (λ h. tt)
+policy-own : (size : ℕ) (value : List ℕ) → AllOwn (policyRead size value)
+policy-own size value = policy-tested AllOwn size value (λ h. inl (omega arith)) (λ h k. inl (omega arith)) (λ h. tt)
 
-keep-below : (i t value : List ℕ) → AllBelow (keepRead i t value)
-keep-below i t value = keep-tested AllBelow i t value (λ h. omega arith) (λ h k. tt)
+default-own : (value : List ℕ) → AllOwn (defaultRead value)
+default-own value = default-tested AllOwn value (λ h. inr refl) (λ h. tt)
 
-script-below : (value : List ℕ) → AllBelow (scriptRead value)
-script-below value = script-tested AllBelow value (λ h. omega arith) (λ s h. tt)
+keep-own : (i t value : List ℕ) → AllOwn (keepRead i t value)
+keep-own i t value = keep-tested AllOwn i t value (λ h. inl (omega arith)) (λ h k. tt)
+
+script-own : (value : List ℕ) → AllOwn (scriptRead value)
+script-own value = script-tested AllOwn value (λ h. inl (omega arith)) (λ s h. tt)
 
 branch {ℓ} : {A : Type 0} (P : A → Type ℓ) (test : Bool) {x y : A} → P x → P y → P (elim test [ true ↦ x | false ↦ y ])
 branch P true p q = p
 branch P false p q = q
 
-value-below : (f : Fields) (field : Field) → AllBelow (withField f field)
-unfolding withField withRule withPolicy withKeep withScript
-value-below f field =
+value-own : (f : Fields) (field : Field) → AllOwn (withField f field)
+unfolding withField withRule withPolicy withDefault withKeep withScript
+value-own f field =
     let value = field .value in
     let c = f .catalogue in
     let size = length c in
     let i = listed (f .initial) in
     let t = listed (f .target) in
-    branch AllBelow (eqb (field .tag) rule-tag) (below-then (ruleRead c value) _ (rule-below c value) (λ a. tt))
-    (branch AllBelow (eqb (field .tag) initial-tag) (below-then (policyRead size value) _ (policy-below size value) (λ a. tt))
-    (branch AllBelow (eqb (field .tag) target-tag) (below-then (policyRead size value) _ (policy-below size value) (λ a. tt))
-    (branch AllBelow (eqb (field .tag) keep-tag) (below-then (keepRead i t value) _ (keep-below i t value) (λ a. tt))
-    (below-then (scriptRead value) _ (script-below value) (λ a. tt)))))
+    branch AllOwn (eqb (field .tag) rule-tag) (own-then (ruleRead c value) _ (rule-own c value) (λ a. tt))
+    (branch AllOwn (eqb (field .tag) initial-tag) (own-then (policyRead size value) _ (policy-own size value) (λ a. tt))
+    (branch AllOwn (eqb (field .tag) target-tag) (own-then (policyRead size value) _ (policy-own size value) (λ a. tt))
+    (branch AllOwn (eqb (field .tag) default-tag) (own-then (defaultRead value) _ (default-own value) (λ a. tt))
+    (branch AllOwn (eqb (field .tag) keep-tag) (own-then (keepRead i t value) _ (keep-own i t value) (λ a. tt))
+    (own-then (scriptRead value) _ (script-own value) (λ a. tt))))))
 
-abbrev ReadsBelow : Reading → Type 0
-ReadsBelow (accepted c) = Unit {0}
-ReadsBelow (refused refusal) = Below (refusal .why)
+abbrev ReadsOwn : Reading → Type 0
+ReadsOwn (accepted c) = Unit {0}
+ReadsOwn (refused refusal) = Own (refusal .why)
 
-reading-below : (n : ℕ) (f : Fields) (at : ℕ) (left : List ℕ) → ReadsBelow (readFrom n f at left)
+reading-own : (n : ℕ) (f : Fields) (at : ℕ) (left : List ℕ) → ReadsOwn (readFrom n f at left)
 unfolding readFrom atEnd
-reading-below n f at [] = byOption (f .target) (λ e. rw (e, atEnd) (omega arith)) (λ t e. rw (e, atEnd) tt)
-reading-below (suc n) f at (x ∷ l) = reading-below n f (suc at) l
-reading-below zero f at (x ∷ l) =
-    read-by ReadsBelow f at x l
-    (λ why e. subst AllBelow e (below-then (fieldRead f (x ∷ l)) _ (head-below f (x ∷ l)) (value-below f)))
-    (λ field g h e. reading-below (2 + length (field .value)) g (suc at) l)
+reading-own n f at [] = byOption (f .target) (λ e. rw (e, atEnd) (inl (omega arith))) (λ t e. rw (e, atEnd) tt)
+reading-own (suc n) f at (x ∷ l) = reading-own n f (suc at) l
+reading-own zero f at (x ∷ l) =
+    read-by ReadsOwn f at x l
+    (λ why e. subst AllOwn e (own-then (fieldRead f (x ∷ l)) _ (head-own f (x ∷ l)) (value-own f)))
+    (λ field g h e. reading-own (2 + length (field .value)) g (suc at) l)
 
--- the reader's numbers are those up to 11
-pub file-numbers : (file : List ℕ) (number at : ℕ) → readingNumbers (readFile file) ≡ number ∷ at ∷ [] → number ≤ 11
+pub file-numbers : (file : List ℕ) (number at : ℕ) → readingNumbers (readFile file) ≡ number ∷ at ∷ [] → (number ≤ 11) ⊎ (number ≡ 50)
 unfolding readFile readingNumbers refusalNumbers
-file-numbers file number at e = go (readFile file) (reading-below 0 nothing 0 file) e
+file-numbers file number at e = go (readFile file) (reading-own 0 nothing 0 file) e
   where
-    go : (reading : Reading) → ReadsBelow reading → readingNumbers reading ≡ number ∷ at ∷ [] → number ≤ 11
-    go (accepted c) below e = absurd (omega (arith, ap length e))
-    go (refused refusal) below e = omega (arith, both-same e .0)
+    go : (reading : Reading) → ReadsOwn reading → readingNumbers reading ≡ number ∷ at ∷ [] → (number ≤ 11) ⊎ (number ≡ 50)
+    go (accepted c) own e = absurd (omega (arith, ap length e))
+    go (refused refusal) own e = subst OwnNumber (both-same e .0) own
 
 pub refused-without-script : RefusedWithoutScript
 unfolding readToJudge needsScript readingNumbers refusalNumbers
@@ -333,7 +349,7 @@ refused-without-script file at = (λ e. go (readFile file) refl e, λ h. rw (h .
   where
     go : (reading : Reading) → readFile file ≡ reading → readingNumbers (needsScript (length file) reading) ≡ 12 ∷ at ∷ []
         → (c : Contents) × (readFile file ≡ accepted c) × (c .script ≡ none) × (at ≡ length file)
-    go (refused refusal) h e = absurd (omega (arith, file-numbers file 12 at (ap readingNumbers h ∙ e)))
+    go (refused refusal) h e = absurd (⊎-elim (λ low. omega arith) (λ is. omega arith) (file-numbers file 12 at (ap readingNumbers h ∙ e)))
     go (accepted c) h e =
         byOption (c .script)
         (λ absent. (c, h, absent, sym (both-same (rw (absent, needsScript) at e) .1)))

@@ -4,7 +4,7 @@
 use Prim.Native.Nat.{ℕ, _*_, _/_, _%_, _≤_}
 use native.Mathlib.Omega.{arith}
 use mathlib.Core.Path.{_≡_, refl, sym, _∙_, ap, subst}
-use mathlib.Core.Logic.{⊎-elim}
+use mathlib.Core.Logic.{_⊎_, inl, inr, ⊎-elim}
 use mathlib.Core.List.{
   List,
   [],
@@ -27,18 +27,21 @@ use lib.Dec.{eqb, leb}
 use lib.ListN.{length, drop}
 use Rattle.policy.specs.Policy.{most-rules}
 use Rattle.policy.specs.Rule.{Rule}
+use Rattle.policy.specs.declared.Action.{Action}
+use Rattle.policy.specs.declared.Action.the-variants.{Deny, Permit}
 use Rattle.policy.proofs.Tests.{falsely, never}
 use Rattle.deployment.specs.Checked.{Checked, good, bad, _>>=_, whyNumber, refusalNumbers}
-use Rattle.deployment.specs.Bytes.{chunks}
-use Rattle.deployment.specs.Values.{rule-bytes, ruleOf, numbersOf, listFits, scriptFits}
+use Rattle.deployment.specs.Bytes.{number, chunks}
+use Rattle.deployment.specs.Values.{rule-bytes, default-bytes, ruleOf, numbersOf, defaultFits, listFits, scriptFits}
 use Rattle.deployment.specs.Catalogue.{recordCount, recordsOf, catalogueOf}
-use Rattle.deployment.specs.Contents.{Contents, ruleRead, policyRead, keepRead, scriptRead}
+use Rattle.deployment.specs.Contents.{Contents, ruleRead, policyRead, defaultRead, keepRead, scriptRead}
 use Rattle.deployment.specs.File.{readingNumbers}
 use Rattle.deployment.specs.FieldValues.{
   FieldValues,
   rulesRead,
   catalogueValue,
   policyValue,
+  defaultValue,
   keepValue,
   scriptValue,
   valuesRead,
@@ -63,6 +66,9 @@ use Rattle.deployment.specs.Properties.{
   policy-length,
   policy-outside,
   policy-twice,
+  DefaultFails,
+  default-length,
+  default-value,
   KeepFails,
   keep-length,
   keep-order,
@@ -71,12 +77,14 @@ use Rattle.deployment.specs.Properties.{
   script-coding,
   RulesRight,
   PolicyRight,
+  DefaultRight,
   KeepRight,
   ruleCount,
   ValuesFail,
   at-rules,
   at-initial,
   at-target,
+  at-default,
   at-keep,
   at-script,
 }
@@ -88,6 +96,7 @@ use Rattle.deployment.proofs.Tests.{
   not-says,
   denies-not,
   not-denies,
+  says-equal,
   says-list,
   says-script,
   says-known,
@@ -102,6 +111,7 @@ use Rattle.deployment.proofs.Tests.{
   tested,
   rule-tested,
   policy-tested,
+  default-tested,
   keep-tested,
   script-tested,
 }
@@ -267,6 +277,29 @@ module _ (size : ℕ) (value : List ℕ) where
         says-differ (numbersOf value) .1 (sound .distinct),
       )
 
+-- The default's, where there is one.
+abbrev DefaultTurned : Option (List ℕ) → ℕ → Type 0
+DefaultTurned value number = (default : List ℕ) × (value ≡ some default) × DefaultFails default number
+
+default-right : (value : Option (List ℕ)) → Right (λ d. IfThere DefaultRight value) (DefaultTurned value) (defaultValue value)
+unfolding defaultValue
+default-right none = tt
+default-right (some value) =
+    let All : Checked Action → Type 0 = Right (λ d. DefaultRight value) (DefaultTurned (some value)) in
+    let says = says-equal (length value) default-bytes in
+    tested All (eqb (length value) default-bytes) (λ e. (value, refl, default-length (says-not says e))) λ e.
+    default-tested All value (λ wrong. (value, refl, default-value (says .0 e) wrong)) (λ is. (says .0 e, is))
+
+default-turns : (default : List ℕ) {number : ℕ} → DefaultFails default number → Turns number (defaultValue (some default))
+unfolding defaultValue defaultRead defaultFits
+default-turns default (default-length wrong) = rw (not-says (says-equal (length default) default-bytes) wrong) refl
+default-turns default (default-value right wrong) = rw (right, not-says (says-equal (number default) 1) wrong) refl
+
+default-passes : (value : Option (List ℕ)) → IfThere DefaultRight value → (action : Action) × (defaultValue value ≡ good action)
+unfolding defaultValue defaultRead defaultFits
+default-passes none right = (Deny, refl)
+default-passes (some value) (right, is) = (Permit, rw (right, is))
+
 -- The keep list's, where there is one.
 module _ (initial target : List ℕ) where
   abbrev KeepTurned : Option (List ℕ) → ℕ → Type 0
@@ -340,11 +373,14 @@ values-right v =
     right-then _ (λ c. Unit {0}) (PolicyFails size (v .target)) Row (policyValue size (v .target)) _ (policy-right size (v .target))
     (λ n. at-target rules initial)
     λ q (target, q-is). rw (p-is, q-is)
-    (right-then _ (λ c. Unit {0}) (KeepTurned i t (v .keep)) Row (keepValue i t (v .keep)) _ (keep-right i t (v .keep))
-    (λ n turned. at-keep (rules, initial, target) (turned .0) (turned .1) (turned .2))
+    (right-then _ (λ c. Unit {0}) (DefaultTurned (v .default)) Row (defaultValue (v .default)) _ (default-right (v .default))
+    (λ n turned. at-default (rules, initial, target) (turned .0) (turned .1) (turned .2))
+    λ d default.
+    right-then _ (λ c. Unit {0}) (KeepTurned i t (v .keep)) Row (keepValue i t (v .keep)) _ (keep-right i t (v .keep))
+    (λ n turned. at-keep ((rules, initial, target), default) (turned .0) (turned .1) (turned .2))
     λ k keep.
     right-then _ (λ c. Unit {0}) (ScriptTurned (v .script)) Row (scriptValue (v .script)) _ (script-right (v .script))
-    (λ n turned. at-script (rules, initial, target) keep (turned .0) (turned .1) (turned .2))
+    (λ n turned. at-script ((rules, initial, target), default) keep (turned .0) (turned .1) (turned .2))
     λ s script. tt))
 
 values-turn : (v : FieldValues) (number : ℕ) → ValuesFail v number → Turns number (valuesRead v)
@@ -355,18 +391,27 @@ values-turn v number (at-initial rules fails) =
 values-turn v number (at-target rules initial fails) =
     rw (catalogue-passes (v .rules) rules, policy-passes (ruleCount v) (v .initial) initial)
     (turns-then number (policyValue (ruleCount v) (v .target)) _ (policy-turns (ruleCount v) (v .target) fails))
-values-turn v number (at-keep (rules, initial, target) keep is fails) =
+values-turn v number (at-default (rules, initial, target) default is fails) =
     rw (
       catalogue-passes (v .rules) rules,
       policy-passes (ruleCount v) (v .initial) initial,
       policy-passes (ruleCount v) (v .target) target,
       is,
-    ) (turns-then number (keepValue (numbersOf (v .initial)) (numbersOf (v .target)) (some keep)) _ (keep-turns _ _ keep fails))
-values-turn v number (at-script (rules, initial, target) keep script is fails) =
+    ) (turns-then number (defaultValue (some default)) _ (default-turns default fails))
+values-turn v number (at-keep ((rules, initial, target), default) keep is fails) =
     rw (
       catalogue-passes (v .rules) rules,
       policy-passes (ruleCount v) (v .initial) initial,
       policy-passes (ruleCount v) (v .target) target,
+      default-passes (v .default) default .1,
+      is,
+    ) (turns-then number (keepValue (numbersOf (v .initial)) (numbersOf (v .target)) (some keep)) _ (keep-turns _ _ keep fails))
+values-turn v number (at-script ((rules, initial, target), default) keep script is fails) =
+    rw (
+      catalogue-passes (v .rules) rules,
+      policy-passes (ruleCount v) (v .initial) initial,
+      policy-passes (ruleCount v) (v .target) target,
+      default-passes (v .default) default .1,
       keep-passes (numbersOf (v .initial)) (numbersOf (v .target)) (v .keep) keep .1,
       is,
     ) (turns-then number (scriptValue (some script)) _ (script-turns script fails))
@@ -387,7 +432,7 @@ refused-values v number at = (
     turned (good c) turns start = absurd turns
     turned (bad why) turns start = rw (turns, start)
 
--- The numbers of the rows are those from 4 to 11.
+-- The numbers of the rows are those from 4 to 11, and 50.
 rule-numbers : {earlier : List (List ℕ)} {rule : List ℕ} {number : ℕ} → RuleFails earlier rule number → number ≤ 11
 rule-numbers (rule-bounds wrong) = omega arith
 rule-numbers (rule-equal right equal) = omega arith
@@ -410,9 +455,14 @@ script-numbers : {value : List ℕ} {number : ℕ} → ScriptFails value number 
 script-numbers (script-length wrong) = omega arith
 script-numbers (script-coding right wrong) = omega arith
 
-pub values-numbers : {v : FieldValues} {number : ℕ} → ValuesFail v number → number ≤ 11
-values-numbers (at-rules fails) = rules-numbers fails
-values-numbers (at-initial rules fails) = policy-numbers fails
-values-numbers (at-target rules initial fails) = policy-numbers fails
-values-numbers (at-keep policies keep is fails) = keep-numbers fails
-values-numbers (at-script policies keep script is fails) = script-numbers fails
+default-numbers : {value : List ℕ} {number : ℕ} → DefaultFails value number → (number ≤ 11) ⊎ (number ≡ 50)
+default-numbers (default-length wrong) = inl (omega arith)
+default-numbers (default-value right wrong) = inr refl
+
+pub values-numbers : {v : FieldValues} {number : ℕ} → ValuesFail v number → (number ≤ 11) ⊎ (number ≡ 50)
+values-numbers (at-rules fails) = inl (rules-numbers fails)
+values-numbers (at-initial rules fails) = inl (policy-numbers fails)
+values-numbers (at-target rules initial fails) = inl (policy-numbers fails)
+values-numbers (at-default lists default is fails) = default-numbers fails
+values-numbers (at-keep policies keep is fails) = inl (keep-numbers fails)
+values-numbers (at-script policies keep script is fails) = inl (script-numbers fails)

@@ -12,14 +12,17 @@ use lib.Dec.{eqb, leb}
 use borrow.Author.Tests.{leb-true, leb-false, le-leb, lt-leb}
 use Rattle.policy.specs.Lists.{mem}
 use Rattle.policy.specs.Policy.{most-rules, most-listed}
+use Rattle.policy.specs.declared.Action.the-variants.{Permit}
 use Rattle.deployment.specs.Checked.{Checked, good, bad, _>>=_, whyNumber}
-use Rattle.deployment.specs.Values.{rule-bytes, ruleOf, numbersOf, numbersBytes}
-use Rattle.deployment.specs.Contents.{ruleRead, policyRead, keepRead, scriptRead}
+use Rattle.deployment.specs.Bytes.{number}
+use Rattle.deployment.specs.Values.{rule-bytes, default-bytes, ruleOf, numbersOf, numbersBytes, defaultFits}
+use Rattle.deployment.specs.Contents.{ruleRead, policyRead, defaultRead, keepRead, scriptRead}
 use Rattle.deployment.specs.File.{
   Fields,
   setCatalogue,
   setInitial,
   setTarget,
+  setDefault,
   setKeep,
   setScript,
   listed,
@@ -30,6 +33,7 @@ use Rattle.deployment.specs.File.{
   fieldRead,
   withRule,
   withPolicy,
+  withDefault,
   withKeep,
   withScript,
   withField,
@@ -37,6 +41,7 @@ use Rattle.deployment.specs.File.{
   rule-tag,
   initial-tag,
   target-tag,
+  default-tag,
   keep-tag,
   script-tag,
   head-bytes,
@@ -71,6 +76,7 @@ use Rattle.deployment.specs.Properties.{
   names-twice,
   keep-astray,
   wrong-coding,
+  wrong-default,
 }
 use Rattle.deployment.specs.declared.Why.{Why}
 use Rattle.deployment.specs.declared.Why.the-variants.{
@@ -84,6 +90,7 @@ use Rattle.deployment.specs.declared.Why.the-variants.{
   Twice,
   Keep,
   Coding,
+  Default,
 }
 use Rattle.deployment.proofs.Bytes.{are-bytes-part, length-part, part-rest, part-written}
 use Rattle.deployment.proofs.Tests.{
@@ -106,6 +113,7 @@ use Rattle.deployment.proofs.Tests.{
   tested,
   rule-tested,
   policy-tested,
+  default-tested,
   keep-tested,
   script-tested,
 }
@@ -113,6 +121,7 @@ use Rattle.deployment.proofs.Values.{
   in-known,
   rule-recordable,
   rule-written,
+  default-written,
   numbers-count,
   numbers-written,
 }
@@ -124,11 +133,13 @@ use Rattle.deployment.proofs.Fields.{
   bytes-with-rule,
   bytes-with-initial,
   bytes-with-target,
+  bytes-with-default,
   bytes-with-keep,
   bytes-with-script,
   readable-rule,
   readable-initial,
   readable-target,
+  readable-default,
   readable-keep,
   readable-script,
 }
@@ -184,13 +195,20 @@ field-and-rest left b h =
 
 -- the right length, by the tag
 pub rule-size : {tag size : ℕ} → tag ≡ rule-tag → RightLength tag size → size ≡ rule-bytes
-rule-size e = ⊎-elim (λ h. h .1) (⊎-elim (λ h. absurd (omega (arith, e, h .0))) (λ h. absurd (h .0 e)))
+rule-size e =
+    ⊎-elim (λ h. h .1) (⊎-elim (λ h. absurd (omega (arith, e, h .0))) (⊎-elim (λ h. absurd (omega (arith, e, h .0))) (λ h. absurd (h .0 e))))
 
 pub script-size : {tag size : ℕ} → tag ≡ script-tag → RightLength tag size → RightScript size
-script-size e = ⊎-elim (λ h. absurd (omega (arith, e, h .0))) (⊎-elim (λ h. h .1) (λ h. absurd (h .1 e)))
+script-size e =
+    ⊎-elim (λ h. absurd (omega (arith, e, h .0))) (⊎-elim (λ h. h .1) (⊎-elim (λ h. absurd (omega (arith, e, h .0))) (λ h. absurd (h .1 e))))
 
-pub list-size : {tag size : ℕ} → ¬ (tag ≡ rule-tag) → ¬ (tag ≡ script-tag) → RightLength tag size → RightList size
-list-size r s = ⊎-elim (λ h. absurd (r (h .0))) (⊎-elim (λ h. absurd (s (h .0))) (λ h. h .2))
+pub default-size : {tag size : ℕ} → tag ≡ default-tag → RightLength tag size → size ≡ default-bytes
+default-size e =
+    ⊎-elim (λ h. absurd (omega (arith, e, h .0))) (⊎-elim (λ h. absurd (omega (arith, e, h .0))) (⊎-elim (λ h. h .1) (λ h. absurd (h .2 e))))
+
+pub list-size : {tag size : ℕ} → ¬ (tag ≡ rule-tag) → ¬ (tag ≡ script-tag) → ¬ (tag ≡ default-tag) → RightLength tag size → RightList size
+list-size r s d =
+    ⊎-elim (λ h. absurd (r (h .0))) (⊎-elim (λ h. absurd (s (h .0))) (⊎-elim (λ h. absurd (d (h .0))) (λ h. h .3)))
 
 -- The value of a field that is whole: what is read are fields that can have been read, from the bytes so far and those of the
 -- field; what turns it away is a row of the table.
@@ -231,9 +249,10 @@ module _ (left : List ℕ) (b : AreBytes left) where
       )
 
   -- a list of rule numbers: its count, and its bytes again
-  module _ (f : Fields) (whole : Whole f left) (n : ¬ (tagOf left ≡ rule-tag)) (m : ¬ (tagOf left ≡ script-tag)) where
+  module _ (f : Fields) (whole : Whole f left) (n : ¬ (tagOf left ≡ rule-tag)) (m : ¬ (tagOf left ≡ script-tag))
+      (o : ¬ (tagOf left ≡ default-tag)) where
     right-list : RightList (sizeOf left)
-    right-list = list-size n m (whole .0 .1)
+    right-list = list-size n m o (whole .0 .1)
 
     list-long : length (valueOf left) ≡ 2 * (right-list .0)
     list-long = length-part head-bytes (sizeOf left) left (whole .1) ∙ right-list .1
@@ -255,11 +274,25 @@ module _ (left : List ℕ) (b : AreBytes left) where
       let value = valueOf left in
       let no-rule : ¬ (tagOf left ≡ rule-tag) = λ h. ⊎-elim (λ e. omega arith) (λ e. omega arith) which in
       let no-script : ¬ (tagOf left ≡ script-tag) = λ h. ⊎-elim (λ e. omega arith) (λ e. omega arith) which in
+      let no-default : ¬ (tagOf left ≡ default-tag) = λ h. ⊎-elim (λ e. omega arith) (λ e. omega arith) which in
       policy-tested (λ read. ValueRight f left (_>>=_ read (λ p. good (set f (some p))))) (length (f .catalogue)) value
       (names-outside whole which) (names-twice whole which) λ sound. (
         whole,
-        readable (numbersOf value) (record { few = list-few f whole no-rule no-script; sound = sound }),
-        one-more f _ tag _ whole e (list-written f whole no-rule no-script) (bytes (numbersOf value)),
+        readable (numbersOf value) (record { few = list-few f whole no-rule no-script no-default; sound = sound }),
+        one-more f _ tag _ whole e (list-written f whole no-rule no-script no-default) (bytes (numbersOf value)),
+      )
+
+  default-right : (f : Fields) → Readable f → Whole f left → tagOf left ≡ default-tag → ValueRight f left (withDefault f (valueOf left))
+  unfolding withDefault
+  default-right f r whole e =
+      let value = valueOf left in
+      let stands = whole-stands f default-tag whole e in
+      let long : length value ≡ default-bytes = length-part head-bytes (sizeOf left) left (whole .1) ∙ default-size e (whole .0 .1) in
+      default-tested (λ read. ValueRight f left (_>>=_ read (λ default. good (setDefault f (some default))))) value
+      (wrong-default whole e) λ one. (
+        whole,
+        readable-default f r Permit stands refl,
+        one-more f _ default-tag _ whole e (default-written value value-bytes long one) (bytes-with-default f Permit stands),
       )
 
   keep-right : (f : Fields) → Readable f → Whole f left → tagOf left ≡ keep-tag → ValueRight f left (withKeep f (valueOf left))
@@ -267,7 +300,7 @@ module _ (left : List ℕ) (b : AreBytes left) where
   keep-right f r whole e =
       let value = valueOf left in
       let stands = whole-stands f keep-tag whole e in
-      let written = list-written f whole (omega arith) (omega arith) in
+      let written = list-written f whole (omega arith) (omega arith) (omega arith) in
       keep-tested (λ read. ValueRight f left (_>>=_ read (λ keep. good (setKeep f (some keep))))) (listed (f .initial)) (listed (f .target)) value
       (keep-astray whole e) λ initial target. (
         whole,
@@ -302,6 +335,7 @@ module _ (left : List ℕ) (b : AreBytes left) where
       (λ e.
       let stands = whole-stands f target-tag whole e in
       policy-right setTarget target-tag f whole e (inr e) (λ p. readable-target f r p stands) (λ p. bytes-with-target f p stands))
+      (default-right f r whole)
       (keep-right f r whole)
       (script-right f r whole)
       refl
@@ -351,7 +385,7 @@ module _ (f : Fields) (left : List ℕ) where
   turned why e = rw e refl
 
   pub fails-taken : {number : ℕ} → 1 ≤ length left → FieldFails f left number → Turns number (taken f left)
-  unfolding fieldRead withField withRule ruleRead withPolicy policyRead withKeep keepRead withScript scriptRead
+  unfolding fieldRead withField withRule ruleRead withPolicy policyRead withDefault defaultRead defaultFits withKeep keepRead withScript scriptRead
   fails-taken some-left (cut h) =
       turned Cut (⊎-elim (λ h. rw (lt-leb head-bytes (length left) (h .1)))
       (λ h. rw (
@@ -386,3 +420,5 @@ module _ (f : Fields) (left : List ℕ) where
       turned Keep (tag-taken whole e ∙ rw (not-says says astray))
   fails-taken some-left (wrong-coding whole e wrong) =
       turned Coding (tag-taken whole e ∙ rw (wrong-none (valueOf left) wrong, scriptRead))
+  fails-taken some-left (wrong-default whole e wrong) =
+      turned Default (tag-taken whole e ∙ rw (not-says (says-equal (number (valueOf left)) 1) wrong))

@@ -3,7 +3,7 @@
 use Prim.Native.Nat.{ℕ, _+_, _*_, _-_, _/_, _%_, _≤_, _<_}
 use native.Mathlib.Omega.{arith}
 use mathlib.Core.Path.{_≡_, refl}
-use mathlib.Core.Bool.{Bool, true, false, not, _&&_, _||_, and-assoc, or-assoc}
+use mathlib.Core.Bool.{Bool, true, false, not, _&&_, _||_, and-assoc}
 use mathlib.Core.Logic.{_⊎_, inl, inr, ⊎-elim, _↔_}
 use mathlib.Core.List.{
   List,
@@ -23,7 +23,9 @@ use Rattle.policy.specs.Lists.{all, occurs, differ}
 use Rattle.policy.specs.Policy.{most-listed}
 use Rattle.policy.specs.Rule.{Range, Rule}
 use Rattle.policy.specs.Properties.{Distinct}
-use Rattle.policy.specs.Claims.{Policy}
+use Rattle.policy.specs.declared.Action.{Action}
+use Rattle.policy.specs.declared.Action.the-variants.{Permit}
+use Rattle.policy.specs.Claims.{Admitted}
 use Rattle.policy.proofs.Tests.{byTest, never, and-both, both-and, or-either, or-left, or-right, not-true, false-not, falsely}
 use Rattle.policy.proofs.Lists.{all-in}
 use Rattle.policy.proofs.Order.{differ-distinct, distinct-differ, occurs-sublist, sublist-occurs}
@@ -32,6 +34,8 @@ use Rattle.deployment.specs.Bytes.{number, part}
 use Rattle.deployment.specs.Values.{
   Script,
   rule-bytes,
+  default-bytes,
+  defaultFits,
   ruleOf,
   ruleFits,
   rising,
@@ -43,8 +47,8 @@ use Rattle.deployment.specs.Values.{
   most-script-bytes,
   scriptFits,
 }
-use Rattle.deployment.specs.Contents.{ruleRead, policyRead, keepRead, scriptRead}
-use Rattle.deployment.specs.File.{lengthFits, rule-tag, script-tag}
+use Rattle.deployment.specs.Contents.{ruleRead, policyRead, defaultRead, keepRead, scriptRead}
+use Rattle.deployment.specs.File.{lengthFits, rule-tag, default-tag, script-tag}
 use Rattle.deployment.specs.Properties.{
   RightList,
   RightScript,
@@ -52,10 +56,11 @@ use Rattle.deployment.specs.Properties.{
   Falling,
   WrongBounds,
   NamesOutside,
+  WrongDefault,
   WrongCoding,
 }
 use Rattle.deployment.specs.declared.Why.{Why}
-use Rattle.deployment.specs.declared.Why.the-variants.{Bounds, Equal, Outside, Twice, Keep, Coding}
+use Rattle.deployment.specs.declared.Why.the-variants.{Bounds, Equal, Outside, Twice, Default, Keep, Coding}
 use Rattle.deployment.proofs.Values.{byOption, known-in, in-known}
 use Rattle.deployment.proofs.Scripts.{none-wrong}
 
@@ -128,12 +133,17 @@ says-script size =
 pub says-length : (tag size : ℕ) → Says (lengthFits tag size) (RightLength tag size)
 unfolding lengthFits
 says-length tag size =
-    let says =
-    says-or (says-and (says-equal tag rule-tag) (says-equal size rule-bytes))
-    (says-or (says-and (says-equal tag script-tag) (says-script size))
-    (says-and (says-and (says-of-not (says-equal tag rule-tag)) (says-of-not (says-equal tag script-tag))) (says-list size))) in (
-      λ e. ⊎-elim (λ h. inl h) (⊎-elim (λ h. inr (inl h)) (λ h. inr (inr (h .0 .0, h .0 .1, h .1)))) (says .0 (rw or-assoc at e)),
-      λ h. rw or-assoc (says .1 (⊎-elim (λ h. inl h) (⊎-elim (λ h. inr (inl h)) (λ h. inr (inr ((h .0, h .1), h .2)))) h)),
+    let rule = says-equal tag rule-tag in
+    let script = says-equal tag script-tag in
+    let default = says-equal tag default-tag in (
+      λ e. byTest (eqb tag rule-tag) (λ t. inl (rule .0 t, says-equal size rule-bytes .0 (rw t at e))) λ r.
+          byTest (eqb tag script-tag) (λ t. inr (inl (script .0 t, says-script size .0 (rw (r, t) at e)))) λ s.
+          byTest (eqb tag default-tag) (λ t. inr (inr (inl (default .0 t, says-equal size default-bytes .0 (rw (r, s, t) at e))))) λ d.
+          inr (inr (inr (says-not rule r, says-not script s, says-not default d, says-list size .0 (rw (r, s, d) at e)))),
+      ⊎-elim (λ h. rw (h .0) (says-equal size rule-bytes .1 (h .1)))
+          (⊎-elim (λ h. rw (h .0) (says-script size .1 (h .1)))
+          (⊎-elim (λ h. rw (h .0) (says-equal size default-bytes .1 (h .1)))
+          (λ h. rw (not-says rule (h .0), not-says script (h .1), not-says default (h .2)) (says-list size .1 (h .3))))),
     )
 
 -- 5: an action above 1, or a low above its high.
@@ -205,7 +215,7 @@ rule-tested Right c value bounds equal passes =
 pub policy-tested {ℓ} : (Right : Checked (List ℕ) → Type ℓ) (size : ℕ) (value : List ℕ)
     → (NamesOutside size (numbersOf value) → Right (bad Outside))
     → (¬ NamesOutside size (numbersOf value) → ¬ Distinct (numbersOf value) → Right (bad Twice))
-    → (Policy size (numbersOf value) → Right (good (numbersOf value))) → Right (policyRead size value)
+    → (Admitted size (numbersOf value) → Right (good (numbersOf value))) → Right (policyRead size value)
 unfolding policyRead
 policy-tested Right size value outside twice passes =
     let denies = denies-inside size (numbersOf value) in
@@ -216,6 +226,13 @@ policy-tested Right size value outside twice passes =
       inside = λ r h. ltb-true r size (all-in (λ r. ltb r size) (numbersOf value) e r h);
       distinct = differ-distinct (numbersOf value) d;
     })
+
+pub default-tested {ℓ} : (Right : Checked Action → Type ℓ) (value : List ℕ)
+    → (WrongDefault value → Right (bad Default)) → (number value ≡ 1 → Right (good Permit)) → Right (defaultRead value)
+unfolding defaultRead defaultFits
+default-tested Right value fails passes =
+    let says = says-equal (number value) 1 in
+    tested Right (eqb (number value) 1) (λ e. fails (says-not says e)) λ e. passes (says .0 e)
 
 pub keep-tested {ℓ} : (Right : Checked (List ℕ) → Type ℓ) (i t value : List ℕ)
     → (¬ (Sublistᴰ (numbersOf value) i × Sublistᴰ (numbersOf value) t) → Right (bad Keep))

@@ -1,4 +1,4 @@
--- Rules and lists, read and written: what is written reads back as the same rule or list, and what is read from
+-- Rules, lists and defaults, read and written: what is written reads back as the same value, and what is read from
 -- bytes of the right length writes those bytes. The idea: a value is parts of fixed widths one after another, and each part is a
 -- number. Assumes nothing.
 use Prim.Native.Nat.{ℕ, _+_, _*_, _≤_, _<_}
@@ -27,7 +27,7 @@ use mathlib.Core.List.{
 use borrow.Author.Tests.{eqb-true, eqb-false, eq-eqb, leb-true, le-leb}
 use lib.Dec.{eqb, leb, lit<}
 use lib.ListN.{length, drop, length-map, drop-of-length-le}
-use Rattle.policy.specs.Claims.{Policy}
+use Rattle.policy.specs.Claims.{Admitted}
 use Rattle.policy.specs.Policy.{sameAction, most-rules}
 use Rattle.policy.specs.Rule.{Range, Rule}
 use Rattle.policy.specs.declared.Action.{Action}
@@ -48,10 +48,14 @@ use Rattle.deployment.specs.Values.{
   sameRange,
   sameRule,
   known,
+  default-bytes,
+  defaultBytes,
+  defaultOf,
+  defaultField,
   numbersOf,
   numbersBytes,
 }
-use Rattle.deployment.specs.Properties.{AreBytes, Sized, Recordable}
+use Rattle.deployment.specs.Properties.{AreBytes, Sized, Recordable, IfThere}
 use Rattle.deployment.proofs.Bytes.{
   are-bytes-append,
   length-bytes,
@@ -324,6 +328,34 @@ in-known rule (earlier ∷ catalogue) h =
 pub not-known : (rule : Rule) (catalogue : List Rule) → ¬ List·Memᴰ rule catalogue → known rule catalogue ≡ false
 not-known rule catalogue h = falsely (λ t. h (known-in rule catalogue t))
 
+-- A default is one byte, which is 1 where it is permit.
+pub length-default : (action : Action) → length (defaultBytes action) ≡ default-bytes
+unfolding defaultBytes
+length-default action = length-bytes default-bytes (actionNumber action)
+
+pub default-are-bytes : (action : Action) → AreBytes (defaultBytes action)
+unfolding defaultBytes
+default-are-bytes action = bytes-are-bytes default-bytes (actionNumber action)
+
+pub default-read : number (defaultBytes Permit) ≡ 1
+unfolding defaultBytes actionNumber
+default-read = number-bytes default-bytes 1 (lit< tt)
+
+pub default-written : (value : List ℕ) → AreBytes value → length value ≡ default-bytes → number value ≡ 1 → defaultBytes Permit ≡ value
+unfolding defaultBytes actionNumber
+default-written value h long is = rw (long, is) at (bytes-number value h)
+
+-- the field of a default gives it back, and a field that is there is that of permit
+pub default-back : (action : Action) → defaultOf (defaultField action) ≡ action
+unfolding defaultOf defaultField
+default-back Deny = refl
+default-back Permit = refl
+
+pub default-there : (field : Option Action) → IfThere (λ action. action ≡ Permit) field → defaultField (defaultOf field) ≡ field
+unfolding defaultOf defaultField
+default-there none h = refl
+default-there (some action) h = rw h refl
+
 -- Lists of rule numbers, two bytes each.
 two-bytes : (numbers : List ℕ) (piece : List ℕ) → List·Memᴰ piece (map (bytesOf 2) numbers) → length piece ≡ 2
 two-bytes numbers piece t = let at = Memᴰ·of-map (bytesOf 2) numbers t in rw (← at .2) (length-bytes 2 (at .0))
@@ -364,9 +396,9 @@ numbers-read numbers h =
     ∙ map-back (bytesOf 2) number numbers (λ n t. number-bytes 2 n (h n t))
 
 -- rules of a catalogue have numbers of two bytes
-pub policy-numbers : (size : ℕ) (policy : List ℕ) → size ≤ most-rules → Policy size policy → numbersOf (numbersBytes policy) ≡ policy
+pub policy-numbers : (size : ℕ) (policy : List ℕ) → size ≤ most-rules → Admitted size policy → numbersOf (numbersBytes policy) ≡ policy
 policy-numbers size policy few h = numbers-read policy (λ n t. omega (arith, h .inside n t))
 
-pub keep-numbers : (size : ℕ) (policy keep : List ℕ) → size ≤ most-rules → Policy size policy → Sublistᴰ keep policy
+pub keep-numbers : (size : ℕ) (policy keep : List ℕ) → size ≤ most-rules → Admitted size policy → Sublistᴰ keep policy
     → numbersOf (numbersBytes keep) ≡ keep
 keep-numbers size policy keep few h within = numbers-read keep (λ n t. omega (arith, h .inside n (sublist-in within n t)))

@@ -18,9 +18,10 @@ use Rattle.deployment.specs.declared.Why.the-variants.{
   Coding,
   NoScript,
   Room,
+  Default,
 }
 
--- the table's first column
+-- the table's first column, and 02, L1: "50 for a value other than 1"
 abbrev pub whyNumber : Why → ℕ
 whyNumber Cut = 1
 whyNumber Tag = 2
@@ -35,6 +36,7 @@ whyNumber Keep = 10
 whyNumber Coding = 11
 whyNumber NoScript = 12
 whyNumber Room = 13
+whyNumber Default = 50
 
 -- the number of a refusal, and its position
 unfoldable pub refusalNumbers : Refusal → List ℕ

@@ -6,11 +6,12 @@ use mathlib.Core.Logic.{_↔_, _⊎_}
 use mathlib.Core.List.{List, [], _∷_, map, List·Memᴰ}
 use mathlib.Core.Option.{Option, none, some}
 use lib.ListN.{length, take}
+use Rattle.policy.specs.Properties.{StandsAt}
 use Rattle.policy.specs.declared.Decision.{Decision}
 use Rattle.policy.specs.declared.Flow.{Flow}
 use Rattle.deployment.specs.Checked.{whyNumber, refusalNumbers}
 use Rattle.deployment.specs.Bytes.{joined}
-use Rattle.deployment.specs.Values.{Script, ruleBytes, numbersBytes, scriptBytes}
+use Rattle.deployment.specs.Values.{Script, ruleBytes, numbersBytes, defaultBytes, defaultField, scriptBytes}
 use Rattle.deployment.specs.Contents.{Contents}
 use Rattle.deployment.specs.File.{tagsAfter, Reading, accepted, refused, readingNumbers, readFile, readToJudge, fileOf}
 use Rattle.deployment.specs.FieldValues.{FieldValues, readValues, writtenNumbers}
@@ -35,14 +36,20 @@ ReadingNumbersSay = (reading : Reading) (refusal : Refusal) → (readingNumbers 
 abbrev pub WrittenNumbersSay : Type 0
 WrittenNumbersSay = (answer : Written) (refusal : Refusal) → (writtenNumbers answer ≡ refusalNumbers refusal) ↔ (answer ≡ Turned refusal)
 
--- "Tags stand in rising order", "Times": the table of the tags that can stand next, by order alone. A tag can stand after the last one
--- exactly when both are tags, it is above the last, or both are those of rules, and neither policy is passed over.
+-- the order of the tags: those of document 01 "in rising order", and 06 "between tags 03 and 04" (02, L1)
+abbrev pub order : List ℕ
+order = 1 ∷ 2 ∷ 3 ∷ 6 ∷ 4 ∷ 5 ∷ []
+
+-- "Times": the table of the tags that can stand next, by order alone. A tag can stand after the last one exactly when both are tags, it comes
+-- later in the order, or both are those of rules, and neither policy is passed over.
 pub record Rises (last tag : ℕ) : Type 0 where
-  pub least : 1 ≤ last
-  pub most : tag ≤ 5
-  pub rises : (last < tag) ⊎ ((last ≡ 1) × (tag ≡ 1))
-  pub initial : (tag ≤ 2) ⊎ (2 ≤ last)
-  pub target : (tag ≤ 3) ⊎ (3 ≤ last)
+  pub from : ℕ
+  pub to : ℕ
+  pub stood : StandsAt order from last
+  pub stands : StandsAt order to tag
+  pub rises : (from < to) ⊎ ((from ≡ 1) × (to ≡ 1))
+  pub initial : (to ≤ 2) ⊎ (2 ≤ from)
+  pub target : (to ≤ 3) ⊎ (3 ≤ from)
 
 abbrev pub TagsRise : Type 0
 TagsRise = (last tag : ℕ) → List·Memᴰ tag (tagsAfter last) ↔ Rises last tag
@@ -55,7 +62,7 @@ WrittenAgain = (file : List ℕ) (c : Contents) → AreBytes file → readFile f
 abbrev pub ReadBack : Type 0
 ReadBack = (c : Contents) → Valid c → AreBytes (fileOf c) × (readFile (fileOf c) ≡ accepted c)
 
--- Refusals 1 to 11: each number exactly at the position and under the condition of the table, the earlier test winning.
+-- Refusals 1 to 11 and 50: each number exactly at the position and under the condition of the table, the earlier test winning.
 abbrev pub Refused : Type 0
 Refused =
     (file : List ℕ) (number at : ℕ) → AreBytes file
@@ -79,6 +86,7 @@ valuesOf c =
       rules = joined (map ruleBytes (c .catalogue));
       initial = numbersBytes (c .initial);
       target = numbersBytes (c .target);
+      default = elim (defaultField (c .default)) [ none ↦ none | some default ↦ some (defaultBytes default) ];
       keep = elim (c .keep) [ none ↦ none | some keep ↦ some (numbersBytes keep) ];
       script = elim (c .script) [ none ↦ none | some script ↦ some (scriptBytes script) ];
     }
@@ -88,6 +96,7 @@ pub record AreValues (v : FieldValues) : Type 0 where
   pub rules : AreBytes (v .rules)
   pub initial : AreBytes (v .initial)
   pub target : AreBytes (v .target)
+  pub default : IfThere AreBytes (v .default)
   pub keep : IfThere AreBytes (v .keep)
   pub script : IfThere AreBytes (v .script)
 
@@ -97,9 +106,9 @@ ValuesWrittenAgain = (v : FieldValues) (c : Contents) → AreValues v → readVa
 abbrev pub ValuesReadBack : Type 0
 ValuesReadBack = (c : Contents) → Valid c → readValues (valuesOf c) ≡ accepted c
 
--- Numbers. An accepted file never exceeds 44,045 bytes.
+-- Numbers. An accepted file never exceeds 44,049 bytes.
 abbrev pub AcceptedFileFits : Type 0
-AcceptedFileFits = (file : List ℕ) (c : Contents) → AreBytes file → readFile file ≡ accepted c → length file ≤ 44045
+AcceptedFileFits = (file : List ℕ) (c : Contents) → AreBytes file → readFile file ≡ accepted c → length file ≤ 44049
 
 -- The first 65,536 bytes decide: a longer file is read as they are, and turned away with the same number at the same position.
 abbrev pub deciding : ℕ

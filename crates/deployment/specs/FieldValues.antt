@@ -9,10 +9,12 @@ use lib.Seq.{sets}
 use lib.Dec.{eqb, leb}
 use Rattle.policy.specs.Policy.{most-rules}
 use Rattle.policy.specs.Rule.{Rule}
+use Rattle.policy.specs.declared.Action.{Action}
+use Rattle.policy.specs.declared.Action.the-variants.{Deny}
 use Rattle.deployment.specs.Checked.{Checked, good, bad, _>>=_, _>>_, require, refusalNumbers}
 use Rattle.deployment.specs.Bytes.{chunks}
-use Rattle.deployment.specs.Values.{Script, rule-bytes, listFits, scriptFits}
-use Rattle.deployment.specs.Contents.{Contents, ruleRead, policyRead, keepRead, scriptRead}
+use Rattle.deployment.specs.Values.{Script, rule-bytes, default-bytes, listFits, scriptFits}
+use Rattle.deployment.specs.Contents.{Contents, ruleRead, policyRead, defaultRead, keepRead, scriptRead}
 use Rattle.deployment.specs.File.{Reading, accepted, refused}
 use Rattle.deployment.specs.declared.Why.{Why}
 use Rattle.deployment.specs.declared.Why.the-variants.{Length, TooMany, Room}
@@ -20,11 +22,12 @@ use Rattle.deployment.specs.declared.Refusal.{Refusal}
 use Rattle.deployment.specs.declared.Written.{Written}
 use Rattle.deployment.specs.declared.Written.the-variants.{Bytes, Turned}
 
--- "Entries that take lists take field values, and are told whether a keep list is absent or empty"
+-- "Entries that take lists take field values, and are told whether a keep list is absent or empty"; and whether a default is (02, L1)
 pub record FieldValues : Type 0 where
   pub rules : List ℕ
   pub initial : List ℕ
   pub target : List ℕ
+  pub default : Option (List ℕ)
   pub keep : Option (List ℕ)
   pub script : Option (List ℕ)
 
@@ -48,6 +51,13 @@ policyValue size value = do
   require (listFits (length value)) Length
   policyRead size value
 
+-- 02, L1: "4 for another length, then 50 for a value other than 1 ..; among lists, after the target's"; "absence means deny"
+unfoldable pub defaultValue : Option (List ℕ) → Checked Action
+defaultValue none = good Deny
+defaultValue (some value) = do
+  require (eqb (length value) default-bytes) Length
+  defaultRead value
+
 -- "then 4, 10 for the keep list"
 unfoldable pub keepValue : List ℕ → List ℕ → Option (List ℕ) → Checked (Option (List ℕ))
 keepValue initial target none = good none
@@ -69,9 +79,10 @@ valuesRead v = do
   catalogue ← catalogueValue (v .rules)
   initial ← policyValue (length catalogue) (v .initial)
   target ← policyValue (length catalogue) (v .target)
+  default ← defaultValue (v .default)
   keep ← keepValue initial target (v .keep)
   script ← scriptValue (v .script)
-  good (record { catalogue = catalogue; initial = initial; target = target; keep = keep; script = script })
+  good (record { catalogue = catalogue; initial = initial; target = target; default = default; keep = keep; script = script })
 
 -- what an entry answers to what is read of a file or of field values: for the contents, or the refusal
 abbrev pub answered : {A : Type 0} → (Contents → A) → (Refusal → A) → Reading → A

@@ -10,18 +10,22 @@ use Rattle.policy.specs.Policy.{most-rules, most-listed, most-commands}
 use Rattle.policy.specs.Rule.{Range, Rule}
 use Rattle.policy.specs.Command.{coded}
 use Rattle.policy.specs.Properties.{Distinct, Allows, ScriptType}
-use Rattle.policy.specs.Claims.{Policy, Keepable}
+use Rattle.policy.specs.Claims.{Admitted, Keepable}
+use Rattle.policy.specs.declared.Action.{Action}
+use Rattle.policy.specs.declared.Action.the-variants.{Permit}
 use Rattle.policy.specs.declared.Command.{Command}
 use Rattle.policy.specs.declared.Flow.{Flow}
 use Rattle.deployment.specs.Bytes.{number, part, joined}
 use Rattle.deployment.specs.Values.{
   Script,
   rule-bytes,
+  default-bytes,
   ruleOf,
   ruleBytes,
   rangeAt,
   numbersOf,
   numbersBytes,
+  defaultBytes,
   codedOf,
   commandChunks,
   scriptBytes,
@@ -33,6 +37,7 @@ use Rattle.deployment.specs.File.{
   rulesOnly,
   setInitial,
   setTarget,
+  setDefault,
   setKeep,
   listed,
   tagsAfter,
@@ -42,6 +47,7 @@ use Rattle.deployment.specs.File.{
   rule-tag,
   initial-tag,
   target-tag,
+  default-tag,
   keep-tag,
   script-tag,
   head-bytes,
@@ -86,7 +92,7 @@ pub record Catalogue (catalogue : List Rule) : Type 0 where
 -- "512 in a policy": a policy that a file can hold, over a catalogue of the given count
 pub record Listed (size : ℕ) (policy : List ℕ) : Type 0 where
   pub few : length policy ≤ most-listed
-  pub sound : Policy size policy
+  pub sound : Admitted size policy
 
 -- a script that a file can hold: there are scripts of its type, the type allows its commands, their numbers have two bytes
 pub record Scripted (script : Script) : Type 0 where
@@ -125,12 +131,19 @@ upToInitial f = setInitial (rulesOnly (f .catalogue)) (f .initial)
 abbrev pub upToTarget : Fields → Fields
 upToTarget f = setTarget (upToInitial f) (f .target)
 
+abbrev pub upToDefault : Fields → Fields
+upToDefault f = setDefault (upToTarget f) (f .default)
+
 abbrev pub upToKeep : Fields → Fields
-upToKeep f = setKeep (upToTarget f) (f .keep)
+upToKeep f = setKeep (upToDefault f) (f .keep)
 
 -- values that can stand behind these fields: their tag can stand there, and they are right for the catalogue and the policies there
 abbrev pub PolicyBehind : Fields → ℕ → List ℕ → Type 0
 PolicyBehind f tag policy = CanStand f tag × Listed (length (f .catalogue)) policy
+
+-- "value 1 means permit, absence means deny": a default that is there is permit
+abbrev pub DefaultBehind : Fields → Action → Type 0
+DefaultBehind f default = CanStand f default-tag × (default ≡ Permit)
 
 abbrev pub KeepBehind : Fields → List ℕ → Type 0
 KeepBehind f keep = CanStand f keep-tag × Sublistᴰ keep (listed (f .initial)) × Sublistᴰ keep (listed (f .target))
@@ -143,7 +156,8 @@ pub record Readable (f : Fields) : Type 0 where
   pub catalogue : Catalogue (f .catalogue)
   pub initial : IfThere (PolicyBehind (rulesOnly (f .catalogue)) initial-tag) (f .initial)
   pub target : IfThere (PolicyBehind (upToInitial f) target-tag) (f .target)
-  pub keep : IfThere (KeepBehind (upToTarget f)) (f .keep)
+  pub default : IfThere (DefaultBehind (upToTarget f)) (f .default)
+  pub keep : IfThere (KeepBehind (upToDefault f)) (f .keep)
   pub script : IfThere (ScriptBehind (upToKeep f)) (f .script)
 
 -- and the bytes that they were read from
@@ -152,8 +166,9 @@ fieldsBytes f =
     joined (map (λ rule. fieldBytes rule-tag (ruleBytes rule)) (f .catalogue))
     ++ (ifThere initial-tag numbersBytes (f .initial)
     ++ (ifThere target-tag numbersBytes (f .target)
+    ++ (ifThere default-tag defaultBytes (f .default)
     ++ (ifThere keep-tag numbersBytes (f .keep)
-    ++ ifThere script-tag scriptBytes (f .script))))
+    ++ ifThere script-tag scriptBytes (f .script)))))
 
 -- The field at the head of the bytes that are left.
 abbrev pub tagOf : List ℕ → ℕ
@@ -169,7 +184,7 @@ valueOf left = part head-bytes (sizeOf left) left
 abbrev pub OneTooMany : Fields → ℕ → Type 0
 OneTooMany f tag = (tag ≡ rule-tag) × (most-rules ≤ length (f .catalogue))
 
--- 4: "rule not 27; list odd or over 1,024 bytes; script not 1 + 5n with n up to 2,048"
+-- 4: "rule not 27; list odd or over 1,024 bytes; script not 1 + 5n with n up to 2,048"; a default not 1 (02, L1)
 abbrev pub RightList : ℕ → Type 0
 RightList size = (n : ℕ) × (size ≡ 2 * n) × (n ≤ most-listed)
 
@@ -180,7 +195,8 @@ abbrev pub RightLength : ℕ → ℕ → Type 0
 RightLength tag size =
     ((tag ≡ rule-tag) × (size ≡ rule-bytes))
     ⊎ (((tag ≡ script-tag) × RightScript size)
-    ⊎ (¬ (tag ≡ rule-tag) × ¬ (tag ≡ script-tag) × RightList size))
+    ⊎ (((tag ≡ default-tag) × (size ≡ default-bytes))
+    ⊎ (¬ (tag ≡ rule-tag) × ¬ (tag ≡ script-tag) × ¬ (tag ≡ default-tag) × RightList size)))
 
 -- 5: "action above 1, or a low above its high"
 abbrev pub Falling : Range → Type 0
@@ -198,6 +214,10 @@ WrongBounds value =
 -- 8: "a policy names a number outside the catalogue"
 abbrev pub NamesOutside : ℕ → List ℕ → Type 0
 NamesOutside size policy = (r : ℕ) × List·Memᴰ r policy × (size ≤ r)
+
+-- 50: "a value other than 1"
+abbrev pub WrongDefault : List ℕ → Type 0
+WrongDefault value = ¬ (number value ≡ 1)
 
 -- 10: "keep list doesn't occur in order in both policies"
 abbrev pub InOrder : List ℕ → List ℕ → List ℕ → Type 0
@@ -246,6 +266,7 @@ pub data FieldFails (f : Fields) (left : List ℕ) : ℕ → Type 0 where
   keep-astray : Whole f left → tagOf left ≡ keep-tag → ¬ InOrder (listed (f .initial)) (listed (f .target)) (numbersOf (valueOf left))
       → FieldFails f left 10
   wrong-coding : Whole f left → tagOf left ≡ script-tag → WrongCoding (valueOf left) → FieldFails f left 11
+  wrong-default : Whole f left → tagOf left ≡ default-tag → WrongDefault (valueOf left) → FieldFails f left 50
 
 -- "Fields are tested left to right", the position being the field's first byte
 pub record TurnedAway (file : List ℕ) (number at : ℕ) : Type 0 where
@@ -290,6 +311,11 @@ pub data PolicyFails (size : ℕ) (value : List ℕ) : ℕ → Type 0 where
   policy-twice : RightList (length value) → ¬ NamesOutside size (numbersOf value) → ¬ Distinct (numbersOf value)
       → PolicyFails size value 9
 
+-- 02, L1: "4 for another length, then 50"
+pub data DefaultFails (value : List ℕ) : ℕ → Type 0 where
+  default-length : ¬ (length value ≡ default-bytes) → DefaultFails value 4
+  default-value : length value ≡ default-bytes → WrongDefault value → DefaultFails value 50
+
 -- "4, 10 for the keep list"
 pub data KeepFails (initial target value : List ℕ) : ℕ → Type 0 where
   keep-length : ¬ RightList (length value) → KeepFails initial target value 4
@@ -305,7 +331,10 @@ abbrev pub RulesRight : List ℕ → Type 0
 RulesRight value = RightRules (length value) × RulesPass (recordsOf 0 value)
 
 abbrev pub PolicyRight : ℕ → List ℕ → Type 0
-PolicyRight size value = RightList (length value) × Policy size (numbersOf value)
+PolicyRight size value = RightList (length value) × Admitted size (numbersOf value)
+
+abbrev pub DefaultRight : List ℕ → Type 0
+DefaultRight value = (length value ≡ default-bytes) × (number value ≡ 1)
 
 abbrev pub KeepRight : List ℕ → List ℕ → List ℕ → Type 0
 KeepRight initial target value = RightList (length value) × InOrder initial target (numbersOf value)
@@ -314,14 +343,18 @@ KeepRight initial target value = RightList (length value) × InOrder initial tar
 abbrev pub ruleCount : FieldValues → ℕ
 ruleCount v = length (catalogueOf 0 (v .rules))
 
+abbrev pub ListsRight : FieldValues → Type 0
+ListsRight v = RulesRight (v .rules) × PolicyRight (ruleCount v) (v .initial) × PolicyRight (ruleCount v) (v .target)
+
 abbrev pub PoliciesRight : FieldValues → Type 0
-PoliciesRight v = RulesRight (v .rules) × PolicyRight (ruleCount v) (v .initial) × PolicyRight (ruleCount v) (v .target)
+PoliciesRight v = ListsRight v × IfThere DefaultRight (v .default)
 
 pub data ValuesFail (v : FieldValues) (number : ℕ) : Type 0 where
   at-rules : RulesFail (v .rules) number → ValuesFail v number
   at-initial : RulesRight (v .rules) → PolicyFails (ruleCount v) (v .initial) number → ValuesFail v number
   at-target : RulesRight (v .rules) → PolicyRight (ruleCount v) (v .initial) → PolicyFails (ruleCount v) (v .target) number
       → ValuesFail v number
+  at-default : ListsRight v → (default : List ℕ) → v .default ≡ some default → DefaultFails default number → ValuesFail v number
   at-keep : PoliciesRight v → (keep : List ℕ) → v .keep ≡ some keep → KeepFails (numbersOf (v .initial)) (numbersOf (v .target)) keep number
       → ValuesFail v number
   at-script : PoliciesRight v → IfThere (KeepRight (numbersOf (v .initial)) (numbersOf (v .target))) (v .keep)

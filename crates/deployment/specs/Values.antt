@@ -1,4 +1,4 @@
--- 01, "The deployment file": the values of fields: rules, lists of rule numbers, scripts; each read from bytes and written as bytes.
+-- 01, "The deployment file": the values of fields: rules, lists of rule numbers, defaults, scripts; each read from bytes and written as bytes.
 -- Assumes nothing.
 use Prim.Native.Nat.{ℕ, _+_, _*_, _-_, _/_, _%_}
 use mathlib.Core.Bool.{Bool, true, false, cond, _&&_, _||_}
@@ -85,6 +85,27 @@ sameRule a b =
 unfoldable pub known : Rule → List Rule → Bool
 known rule [] = false
 known rule (earlier ∷ catalogue) = sameRule earlier rule || known rule catalogue
+
+-- 02, L1: a default, "length 1"
+abbrev pub default-bytes : ℕ
+default-bytes = 1
+
+-- 50: "a value other than 1"
+unfoldable pub defaultFits : List ℕ → Bool
+defaultFits value = eqb (number value) 1
+
+-- "value 1 means permit"
+unfoldable pub defaultBytes : Action → List ℕ
+defaultBytes action = bytesOf default-bytes (actionNumber action)
+
+-- "absence means deny": the default that a field, there or not, gives, and the field of a default
+unfoldable pub defaultOf : Option Action → Action
+defaultOf none = Deny
+defaultOf (some action) = action
+
+unfoldable pub defaultField : Action → Option Action
+defaultField Deny = none
+defaultField Permit = some Permit
 
 -- "two-byte rule numbers"
 unfoldable pub numbersOf : List ℕ → List ℕ

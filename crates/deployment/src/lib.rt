@@ -3,7 +3,7 @@
 
 use policy::Command;
 
-// Numbers 1 to 13 of "Turned away".
+// Numbers 1 to 13 of "Turned away", and 50.
 pub enum Why {
     Cut,
     Tag,
@@ -18,6 +18,7 @@ pub enum Why {
     Coding,
     NoScript,
     Room,
+    Default,
 }
 
 // The number's case, and the position.

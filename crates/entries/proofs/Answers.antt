@@ -28,6 +28,7 @@ use Rattle.entries.specs.Answers.{
   replayedReading,
   replayedValues,
 }
+use Rattle.values.specs.Answers.{given}
 use Rattle.entries.specs.declared.Decided.{Decided}
 use Rattle.entries.specs.declared.Decided.the-variants as decided
 use Rattle.entries.proofs.files.decide.Reads as decide-file
@@ -49,7 +50,7 @@ pub one-answer-to-flows-of-a-file : (κ : _) (a : _) (r s : Written) (e f : _) �
 one-answer-to-flows-of-a-file κ a r s e f p q = same-left p q
 
 pub one-answer-to-flows-of-lists : (κ : _) (a : _) (r s : Written) (e f : _) → flows-lists.Post κ a r e → flows-lists.Post κ a s f
-    → (r ≡ s) × (now (e .1 .1 .1 .0) ≡ now (f .1 .1 .1 .0))
+    → (r ≡ s) × (now (e .1 .1 .1 .1 .1 .0) ≡ now (f .1 .1 .1 .1 .1 .0))
 one-answer-to-flows-of-lists κ a r s e f p q = same-left p q
 
 pub one-replay-of-a-file : (κ : _) (a : _) (r s : Ran) (e f : _) → replay-file.Post κ a r e → replay-file.Post κ a s f
@@ -57,7 +58,7 @@ pub one-replay-of-a-file : (κ : _) (a : _) (r s : Ran) (e f : _) → replay-fil
 one-replay-of-a-file κ a r s e f p q = same-left p q
 
 pub one-replay-of-lists : (κ : _) (a : _) (r s : Ran) (e f : _) → replay-lists.Post κ a r e → replay-lists.Post κ a s f
-    → (r ≡ s) × (now (e .1 .1 .1 .0) ≡ now (f .1 .1 .1 .0))
+    → (r ≡ s) × (now (e .1 .1 .1 .1 .1 .0) ≡ now (f .1 .1 .1 .1 .1 .0))
 one-replay-of-lists κ a r s e f p q = same-left p q
 
 -- "When turned away, every lent place keeps its bytes", and so where a script breaks off.
@@ -96,9 +97,9 @@ pub a-file-that-gives-no-list-keeps-the-place : (κ : _) (a : _) (r : Ran) (e : 
 a-file-that-gives-no-list-keeps-the-place κ a r e p = kept r _ _ (now (a .1 .0)) p (reading-keeps (readToJudge (now (a .0))) (now (a .1 .0)))
 
 pub lists-that-give-no-list-keep-the-place : (κ : _) (a : _) (r : Ran) (e : _) → replay-lists.Post κ a r e → NothingWritten r
-    → now (e .1 .1 .1 .0) ≡ now (a .1 .1 .1 .0)
+    → now (e .1 .1 .1 .1 .1 .0) ≡ now (a .1 .1 .1 .1 .1 .0)
 lists-that-give-no-list-keep-the-place κ a r e p =
-    kept r _ _ (now (a .1 .1 .1 .0)) p (values-keep (replayedValues (now (a .0)) (now (a .1 .0)) (now (a .1 .1 .0))) (now (a .1 .1 .1 .0)))
+    kept r _ _ (now (a .1 .1 .1 .1 .1 .0)) p (values-keep (replayedValues (now (a .0)) (now (a .1 .0)) (given (a .1 .1 .0) (now (a .1 .1 .1 .0))) (now (a .1 .1 .1 .1 .0))) (now (a .1 .1 .1 .1 .1 .0)))
 
 -- For k below the number of flows, the k-th three bytes of the place are what `decide` answers for the k-th flow.
 pub flows-of-a-file-are-decided : (κ : _) (a : _) (n : ℕ) (e : _) → flows-file.Post κ a (Bytes n) e → AreBytes (now (a .0))
@@ -109,12 +110,12 @@ flows-of-a-file-are-decided κ a n e p bytes k inside =
     (file-flows-decided (a .1 .0) (now (a .0)) (now (a .1 .1 .0)) (now (a .1 .1 .1 .0)) n k bytes (sym (ap (λ (w : Writing). w .answer) p)) inside)
 
 pub flows-of-lists-are-decided : (κ : _) (a : _) (n : ℕ) (e : _) → flows-lists.Post κ a (Bytes n) e
-    → (k : ℕ) → k < flow-count (now (a .1 .1 .0))
-    → decidedAtZero (decidedValues (now (a .0)) (now (a .1 .0)) (flowAt k (now (a .1 .1 .0))))
-    ≡ decided.Is (decisionAt k (now (e .1 .1 .1 .0)))
+    → (k : ℕ) → k < flow-count (now (a .1 .1 .1 .1 .0))
+    → decidedAtZero (decidedValues (now (a .0)) (now (a .1 .0)) (given (a .1 .1 .0) (now (a .1 .1 .1 .0))) (flowAt k (now (a .1 .1 .1 .1 .0))))
+    ≡ decided.Is (decisionAt k (now (e .1 .1 .1 .1 .1 .0)))
 flows-of-lists-are-decided κ a n e p k inside =
     rw (ap (λ (w : Writing). w .place) p)
-    (values-flows-decided (now (a .0)) (now (a .1 .0)) (now (a .1 .1 .0)) (now (a .1 .1 .1 .0)) n k (sym (ap (λ (w : Writing). w .answer) p)) inside)
+    (values-flows-decided (now (a .0)) (now (a .1 .0)) (given (a .1 .1 .0) (now (a .1 .1 .1 .0))) (now (a .1 .1 .1 .1 .0)) (now (a .1 .1 .1 .1 .1 .0)) n k (sym (ap (λ (w : Writing). w .answer) p)) inside)
 
 -- "When turned away, every lent place keeps its bytes."
 pub flows-of-a-turned-file-keep-the-place : (κ : _) (a : _) (refusal : Refusal) (e : _) → flows-file.Post κ a (Turned refusal) e
@@ -124,7 +125,7 @@ flows-of-a-turned-file-keep-the-place κ a refusal e p =
     ∙ (file-flows-keep-rest (a .1 .0) (now (a .0)) (now (a .1 .1 .0)) (now (a .1 .1 .1 .0))) .1 refusal (sym (ap (λ (w : Writing). w .answer) p))
 
 pub flows-of-turned-lists-keep-the-place : (κ : _) (a : _) (refusal : Refusal) (e : _) → flows-lists.Post κ a (Turned refusal) e
-    → now (e .1 .1 .1 .0) ≡ now (a .1 .1 .1 .0)
+    → now (e .1 .1 .1 .1 .1 .0) ≡ now (a .1 .1 .1 .1 .1 .0)
 flows-of-turned-lists-keep-the-place κ a refusal e p =
     ap (λ (w : Writing). w .place) p
-    ∙ (values-flows-keep-rest (now (a .0)) (now (a .1 .0)) (now (a .1 .1 .0)) (now (a .1 .1 .1 .0))) .1 refusal (sym (ap (λ (w : Writing). w .answer) p))
+    ∙ (values-flows-keep-rest (now (a .0)) (now (a .1 .0)) (given (a .1 .1 .0) (now (a .1 .1 .1 .0))) (now (a .1 .1 .1 .1 .0)) (now (a .1 .1 .1 .1 .1 .0))) .1 refusal (sym (ap (λ (w : Writing). w .answer) p))

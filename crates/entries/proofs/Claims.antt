@@ -5,15 +5,17 @@ use native.Mathlib.Omega.{arith}
 use mathlib.Core.Path.{_≡_, refl, ap}
 use mathlib.Core.Bool.{Bool, true, false}
 use mathlib.Core.List.{List}
+use mathlib.Core.Option.{Option}
 use lib.ListN.{length}
-use Rattle.policy.specs.Policy.{most-listed, matching}
+use Rattle.policy.specs.Policy.{Policy, most-listed, matching}
+use Rattle.policy.specs.Rule.{Rule}
 use Rattle.policy.specs.declared.Decision.{Decision}
 use Rattle.policy.specs.declared.Flow.{Flow}
 use Rattle.deployment.specs.Checked.{Checked, good, bad, _>>=_}
 use Rattle.deployment.specs.Values.{listFits}
-use Rattle.deployment.specs.Contents.{Contents}
+use Rattle.deployment.specs.Contents.{Contents, initialPolicy, targetPolicy}
 use Rattle.deployment.specs.File.{Reading, accepted, refused, readFile}
-use Rattle.deployment.specs.FieldValues.{catalogueValue, policyValue}
+use Rattle.deployment.specs.FieldValues.{catalogueValue, policyValue, defaultValue}
 use Rattle.deployment.specs.Properties.{AreBytes}
 use Rattle.deployment.specs.declared.Written.the-variants.{Bytes, Turned}
 use Rattle.deployment.proofs.Records.{numbers-length}
@@ -25,6 +27,7 @@ use Rattle.flows.proofs.Claims.{not-both, flows-keep-rest, each-decided}
 use Rattle.entries.specs.Answers.{
   decidedContents,
   decidedReading,
+  policyTested,
   decidingValues,
   decidedValues,
   decidedAtZero,
@@ -51,7 +54,7 @@ file-flows-keep-rest of-target file flows place = go (readFile file)
 
 pub values-flows-keep-rest : ValuesFlowsKeepRest
 unfolding flowsAtZero
-values-flows-keep-rest rules policy flows place = go (decidingValues rules policy)
+values-flows-keep-rest rules policy default flows place = go (decidingValues rules policy default)
   where
     go : (read : Checked (Flow → Decision)) → KeepsRest place (flowsAtZero read flows place)
     go (good decides) = flows-keep-rest decides flows place
@@ -69,7 +72,7 @@ file-flows-refused of-target file flows place flow refusal e = go (readFile file
 
 pub values-flows-refused : ValuesFlowsRefused
 unfolding decidedValues decidedAtZero flowsAtZero
-values-flows-refused rules policy flows place flow refusal e = go (decidingValues rules policy) e
+values-flows-refused rules policy default flows place flow refusal e = go (decidingValues rules policy default) e
   where
     go : (read : Checked (Flow → Decision)) → decidedAtZero (_>>=_ read (λ decides. good (decides flow))) ≡ decided.Turned refusal
         → (flowsAtZero read flows place) .answer ≡ Turned refusal
@@ -84,9 +87,9 @@ contents-short : (file : List ℕ) (c : Contents) (of-target : Bool) → AreByte
     → Short (λ flow. decidedContents of-target flow c)
 unfolding decidedContents
 contents-short file c true bytes is flow =
-    omega (arith, place-in-list (matching (c .catalogue) flow) (c .target), (written-again file c bytes is) .0 .target .few)
+    omega (arith, place-in-list (matching (c .catalogue) flow) (targetPolicy c), (written-again file c bytes is) .0 .target .few)
 contents-short file c false bytes is flow =
-    omega (arith, place-in-list (matching (c .catalogue) flow) (c .initial), (written-again file c bytes is) .0 .initial .few)
+    omega (arith, place-in-list (matching (c .catalogue) flow) (initialPolicy c), (written-again file c bytes is) .0 .initial .few)
 
 policy-short : (size : ℕ) (value : List ℕ) → Passing (λ policy. length policy ≤ most-listed) (policyValue size value)
 unfolding policyValue
@@ -101,14 +104,25 @@ any : {A : Type 0} (read : Checked A) → Passing (λ a. Unit {0}) read
 any (good a) = tt
 any (bad why) = tt
 
-values-short : (rules value : List ℕ) → Passing Short (decidingValues rules value)
-unfolding decidingValues
-values-short rules value =
-    each-then (λ catalogue. Unit {0}) Short (λ why. Unit {0}) (catalogueValue rules) _ (any (catalogueValue rules))
+policy-tested-short : (rules value : List ℕ) (default : Option (List ℕ))
+    → Passing (λ passed. length (passed .1 .list) ≤ most-listed) (policyTested rules value default)
+unfolding policyTested
+policy-tested-short rules value default =
+    let P : List Rule × Policy → Type 0 = λ passed. length (passed .1 .list) ≤ most-listed in
+    each-then (λ catalogue. Unit {0}) P (λ why. Unit {0}) (catalogueValue rules) _ (any (catalogueValue rules))
     λ catalogue whatever.
-    each-then (λ policy. length policy ≤ most-listed) Short (λ why. Unit {0}) (policyValue (length catalogue) value) _
+    each-then (λ list. length list ≤ most-listed) P (λ why. Unit {0}) (policyValue (length catalogue) value) _
     (policy-short (length catalogue) value)
-    λ policy few flow. omega (arith, place-in-list (matching catalogue flow) policy)
+    λ list few.
+    each-then (λ action. Unit {0}) P (λ why. Unit {0}) (defaultValue default) _ (any (defaultValue default))
+    λ action whatever. few
+
+values-short : (rules value : List ℕ) (default : Option (List ℕ)) → Passing Short (decidingValues rules value default)
+unfolding decidingValues
+values-short rules value default =
+    each-then (λ passed. length (passed .1 .list) ≤ most-listed) Short (λ why. Unit {0}) (policyTested rules value default) _
+    (policy-tested-short rules value default)
+    λ passed few flow. omega (arith, place-in-list (matching (passed .0) flow) (passed .1))
 
 pub file-flows-decided : FileFlowsDecided
 unfolding decidedReading flowsReading
@@ -123,7 +137,8 @@ file-flows-decided of-target file flows place n k bytes e inside = go (readFile 
 
 pub values-flows-decided : ValuesFlowsDecided
 unfolding decidedValues decidedAtZero flowsAtZero
-values-flows-decided rules policy flows place n k e inside = go (decidingValues rules policy) (values-short rules policy) e
+values-flows-decided rules policy default flows place n k e inside =
+    go (decidingValues rules policy default) (values-short rules policy default) e
   where
     go : (read : Checked (Flow → Decision)) → Passing Short read → (flowsAtZero read flows place) .answer ≡ Bytes n
         → decidedAtZero (_>>=_ read (λ decides. good (decides (flowAt k flows))))

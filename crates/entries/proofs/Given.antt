@@ -8,7 +8,7 @@ use mathlib.Core.List.{List}
 use mathlib.Core.Option.{Option, none, some}
 use lib.ListN.{length}
 use Rattle.policy.specs.Policy.{most-rules, most-listed}
-use Rattle.policy.specs.Claims.{Policy, Keepable, Accepted}
+use Rattle.policy.specs.Claims.{Admitted, Keepable, Accepted}
 use Rattle.policy.specs.Judge.{verdict}
 use Rattle.policy.specs.declared.Verdict.{Verdict}
 use Rattle.policy.proofs.Tests.{never}
@@ -59,9 +59,9 @@ module _ (file : List ℕ) {answer : FileRead} where
   file-turned-to-judge {refusal} is taken = shown-refused (readToJudge file) refusal (sym taken ∙ is)
 
 module _ (lent : Lent) {answer : Checking} (is : answer ≡ checking (valuesRead (values lent))) where
-  pub values-passed : AreBytes (lent .rules) → AreBytes (lent .initial) → AreBytes (lent .target) → AreBytes (lent .keep) → AreBytes (lent .script)
-      → answer ≡ check.Good → LentRead lent
-  values-passed rules initial target keep script taken = values-accepted lent rules initial target keep script (sym taken ∙ is)
+  pub values-passed : AreBytes (lent .rules) → AreBytes (lent .initial) → AreBytes (lent .target) → AreBytes (lent .default) → AreBytes (lent .keep)
+      → AreBytes (lent .script) → answer ≡ check.Good → LentRead lent
+  values-passed rules initial target default keep script taken = values-accepted lent rules initial target default keep script (sym taken ∙ is)
 
   pub values-turned : {why : Why} → answer ≡ check.Bad why → readValues (values lent) ≡ refused (record { why = why; at = 0 })
   values-turned {why} taken = values-refused lent why (sym taken ∙ is)
@@ -87,7 +87,7 @@ pub record ToJudge (reading : Reading) (size : ℕ) (initial target : List ℕ) 
   pub there : given .contents .script ≡ some is
   pub commands : scriptOf script ≡ some is
 
-within : (c : Contents) → Valid c → (l : List ℕ) → Policy (length (c .catalogue)) l → Policy most-rules l
+within : (c : Contents) → Valid c → (l : List ℕ) → Admitted (length (c .catalogue)) l → Admitted most-rules l
 within c valid l policy =
     record { inside = λ r t. omega (arith, policy .inside r t, valid .catalogue .few); distinct = policy .distinct }
 
@@ -127,7 +127,7 @@ module _ {reading : Reading} {size : ℕ} {initial target : List ℕ} {has-keep 
 -- The verdict.
 module _ {reading : Reading} {size : ℕ} {initial target : List ℕ} {has-keep : Bool} {keep script : List ℕ}
     (j : ToJudge reading size initial target has-keep keep script) where
-  pub judge-asks : (size ≤ most-rules) × Policy size (numbersOf initial) × Policy size (numbersOf target) × Readable script
+  pub judge-asks : (size ≤ most-rules) × Admitted size (numbersOf initial) × Admitted size (numbersOf target) × Readable script
   judge-asks =
       let gives = j .given .gives in
       let valid = gives .valid in (
@@ -231,23 +231,25 @@ module _ {lent : Lent} (found : LentRead lent) where
       record { given = values-given; is = s; there = is; commands = ap scriptOf (sym bytes) ∙ script-read s right })
 
   -- The file.
-  pub writer-asks : needed (length (lent .rules)) (length (lent .initial)) (length (lent .target)) (lent .has-keep) (length (lent .keep))
-      (lent .has-script) (length (lent .script)) < 65536
+  pub writer-asks : needed (length (lent .rules)) (length (lent .initial)) (length (lent .target)) (lent .has-default) (length (lent .default))
+      (lent .has-keep) (length (lent .keep)) (lent .has-script) (length (lent .script)) < 65536
   writer-asks =
       omega (
         arith,
-        given-fits (lent .rules) (lent .initial) (lent .target) (lent .has-keep) (lent .keep) (lent .has-script) (lent .script)
-            (found .contents) (found .valid) (found .written),
+        given-fits (lent .rules) (lent .initial) (lent .target) (lent .has-default) (lent .default) (lent .has-keep) (lent .keep)
+            (lent .has-script) (lent .script) (found .contents) (found .valid) (found .written),
       )
 
   pub file-written : (place : List ℕ) {left : Writing}
       → left
-      ≡ writing (givenBytes (lent .rules) (lent .initial) (lent .target) (lent .has-keep) (lent .keep) (lent .has-script) (lent .script)) place
+      ≡ writing
+      (givenBytes (lent .rules) (lent .initial) (lent .target) (lent .has-default) (lent .default) (lent .has-keep) (lent .keep)
+      (lent .has-script) (lent .script)) place
       → left ≡ writtenValues (values lent) place
   unfolding writtenValues
   file-written place is =
       for-contents (λ c. writing (fileOf c) place) (leftAlone written.Turned place) (found .is)
       (is
       ∙ ap (λ (output : List ℕ). writing output place)
-      (given-is-file (lent .rules) (lent .initial) (lent .target) (lent .has-keep) (lent .keep) (lent .has-script) (lent .script)
-      (found .contents) (found .written)))
+      (given-is-file (lent .rules) (lent .initial) (lent .target) (lent .has-default) (lent .default) (lent .has-keep) (lent .keep)
+      (lent .has-script) (lent .script) (found .contents) (found .written)))

@@ -46,7 +46,10 @@ file-not-full-for-flows κ a r e p bytes =
 -- the values that a call is given
 abbrev values : (κ : _) → ArgsD signature κ → FieldValues
 values κ a =
-    valuesGiven (now (a .0)) (now (a .1 .0)) (now (a .1 .1 .0)) (a .1 .1 .1 .0) (now (a .1 .1 .1 .1 .0)) true (now (a .1 .1 .1 .1 .1 .0))
+    let behind = a .1 .1 .1 in
+    let last = behind .1 .1 in
+    valuesGiven (now (a .0)) (now (a .1 .0)) (now (a .1 .1 .0)) (behind .0) (now (behind .1 .0)) (last .0) (now (last .1 .0)) true
+    (now (last .1 .1 .0))
 
 -- the answer to field values, likewise
 pub values-judged-by-table : (κ : _) (a : _) (r : Judged) (e : _) → judge-values.Post κ a r e → AreValues (values κ a)

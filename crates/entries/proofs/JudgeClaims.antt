@@ -1,45 +1,49 @@
 -- The claims about the judge's answers. The idea: what is read is valid, so its policies name no rule twice, and the claims about verdicts
--- apply. A number below 20 is a refusal's, one from 20 on a verdict's. Assumes nothing.
-use Prim.Native.Nat.{ℕ, _≤_}
+-- apply. A number from 20 to 49 is a verdict's, any other a refusal's. Assumes nothing.
+use Prim.Native.Nat.{ℕ, _≤_, _<_}
 use native.Mathlib.Omega.{arith}
 use mathlib.Core.Path.{_≡_, refl, ap}
 use mathlib.Core.List.{List, [], _∷_}
 use lib.ListN.{length, getD}
 use Rattle.policy.specs.Judge.{verdict, verdictNumbers}
-use Rattle.policy.specs.Properties.{Distinct}
-use Rattle.policy.specs.Claims.{KeepsTheDefault}
+use Rattle.policy.specs.Policy.{Policy}
+use Rattle.policy.specs.Properties.{Distinct, OneDefault}
+use Rattle.policy.specs.Claims.{DecidesAsOne, KeepsTheDefault}
 use Rattle.policy.specs.declared.Command.{Command}
 use Rattle.policy.proofs.Plans.{safe-decides-as-one, not-full-keeps-the-default}
 use Rattle.deployment.specs.Checked.{refusalNumbers}
-use Rattle.deployment.specs.Contents.{Contents}
+use Rattle.deployment.specs.Contents.{Contents, initialPolicy, targetPolicy}
 use Rattle.deployment.specs.File.{Reading, accepted, refused, readToJudge}
 use Rattle.deployment.specs.Properties.{Valid}
-use Rattle.deployment.proofs.Numbers.{why-small, refusal-numbers-differ}
+use Rattle.deployment.proofs.Numbers.{why-apart, refusal-numbers-differ}
 use Rattle.deployment.proofs.Reader.{written-again}
 use Rattle.deployment.proofs.FieldValues.{values-written-again}
 use Rattle.reader.proofs.ToJudge.{scripted}
 use Rattle.replay.specs.Answers.{commandsOf}
 use Rattle.judge.specs.Answers.{judgedNumbers}
-use Rattle.judge.specs.Claims.{Row, DecidesAsOne}
+use Rattle.judge.specs.Claims.{Row}
 use Rattle.judge.proofs.Claims.{verdict-no-refusal, verdict-by-row}
 use Rattle.entries.specs.Answers.{judgedReading, judgedContents}
 use Rattle.entries.specs.JudgeClaims.{Accepts, OfEach, ByTable, AsRead, AfterSafe, AfterNotFull}
 use Rattle.entries.specs.JudgeClaims.{VerdictByTable, TurnedAsRead, SafeForFlows, NotFullForFlows}
 
--- a property that a verdict's numbers give to two policies whose rules differ is one of what is accepted, for the answer
-module _ (P : ℕ → List ℕ → List ℕ → List Command → Type 0) (number : ℕ) (values : List ℕ) (large : 20 ≤ number)
-    (gives : (size : ℕ) (initial target : List ℕ) (script : List Command) → Distinct initial → Distinct target
-    → verdictNumbers (verdict size initial target script) ≡ number ∷ values → P size initial target script) where
+-- a property that a verdict's numbers give to two policies under one default whose rules differ is one of what is accepted, for the answer
+module _ (P : ℕ → Policy → Policy → List Command → Type 0) (number : ℕ) (values : List ℕ) (large : 20 ≤ number) (small : number < 50)
+    (gives : (size : ℕ) (initial target : Policy) (script : List Command) → OneDefault initial target
+    → Distinct (initial .list) → Distinct (target .list)
+    → verdictNumbers (verdict size (initial .list) (target .list) script) ≡ number ∷ values → P size initial target script) where
   answered : (reading : Reading) → ((c : Contents) → reading ≡ accepted c → Valid c)
       → judgedNumbers (judgedReading reading) ≡ number ∷ values → Accepts P reading
   unfolding judgedReading judgedContents judgedNumbers refusalNumbers
   answered (refused refusal) valid e =
-      absurd (omega (arith, why-small (refusal .why), ap (λ (numbers : List ℕ). getD numbers 0 0) e))
+      let is = ap (λ (numbers : List ℕ). getD numbers 0 0) e in
+      absurd (omega (arith, is, why-apart (refusal .why) (omega (arith, is))))
   answered (accepted c) valid e =
       let right = valid c refl in (
         c,
         refl,
-        gives (length (c .catalogue)) (c .initial) (c .target) (commandsOf (c .script)) (right .initial .sound .distinct) (right .target .sound .distinct) e,
+        gives (length (c .catalogue)) (initialPolicy c) (targetPolicy c) (commandsOf (c .script)) refl (right .initial .sound .distinct)
+            (right .target .sound .distinct) e,
       )
 
 -- the answer to what is accepted has its verdict's numbers
@@ -58,9 +62,9 @@ of-each P holds = (
 
 pub verdict-by-table : VerdictByTable
 verdict-by-table =
-    of-each (λ reading. ByTable (judgedReading reading) reading) (λ reading valid number values large. (
-      answered (λ size i t script. Row size i t script (number ∷ values)) number values large
-          (λ size i t script first last. verdict-by-row size i t script first last (number ∷ values) .0) reading valid,
+    of-each (λ reading. ByTable (judgedReading reading) reading) (λ reading valid number values large small. (
+      answered (λ size i t script. Row size (i .list) (t .list) script (number ∷ values)) number values large small
+          (λ size i t script one first last. verdict-by-row size (i .list) (t .list) script first last (number ∷ values) .0) reading valid,
       λ (c, read, row).
           let right = valid c read in
           answers (number ∷ values) reading c read
@@ -84,8 +88,8 @@ turned-as-read = of-each (λ reading. AsRead (judgedReading reading) reading) (�
 
 pub safe-for-flows : SafeForFlows
 safe-for-flows =
-    of-each (λ reading. AfterSafe (judgedReading reading) reading) (answered DecidesAsOne 32 [] (omega arith) safe-decides-as-one)
+    of-each (λ reading. AfterSafe (judgedReading reading) reading) (answered DecidesAsOne 32 [] (omega arith) (omega arith) safe-decides-as-one)
 
 pub not-full-for-flows : NotFullForFlows
 not-full-for-flows =
-    of-each (λ reading. AfterNotFull (judgedReading reading) reading) (answered KeepsTheDefault 31 [] (omega arith) not-full-keeps-the-default)
+    of-each (λ reading. AfterNotFull (judgedReading reading) reading) (answered KeepsTheDefault 31 [] (omega arith) (omega arith) not-full-keeps-the-default)

@@ -3,7 +3,7 @@
 use Prim.Native.Nat.{ℕ, _≤_}
 use native.Mathlib.Omega.{arith}
 use mathlib.Core.Path.{_≡_, refl, sym, _∙_, ap}
-use mathlib.Core.Logic.{_↔_}
+use mathlib.Core.Logic.{_⊎_, ⊎-elim, _↔_}
 use mathlib.Core.List.{List, [], _∷_}
 use lib.ListN.{length}
 use denote.Ref.{now}
@@ -43,11 +43,11 @@ pub one-answer-two-file : (κ : _) (a : _) (r s : Planned) (e f : _) → two-fil
 one-answer-two-file κ a r s e f p q = same-left p q
 
 pub one-answer-one-values : (κ : _) (a : _) (r s : Planned) (e f : _) → one-values.Post κ a r e → one-values.Post κ a s f
-    → (r ≡ s) × (now (e .1 .1 .1 .1 .1 .1 .1 .0) ≡ now (f .1 .1 .1 .1 .1 .1 .1 .0))
+    → (r ≡ s) × (now (e .1 .1 .1 .1 .1 .1 .1 .1 .1 .0) ≡ now (f .1 .1 .1 .1 .1 .1 .1 .1 .1 .0))
 one-answer-one-values κ a r s e f p q = same-left p q
 
 pub one-answer-two-values : (κ : _) (a : _) (r s : Planned) (e f : _) → two-values.Post κ a r e → two-values.Post κ a s f
-    → (r ≡ s) × (now (e .1 .1 .1 .1 .1 .1 .1 .0) ≡ now (f .1 .1 .1 .1 .1 .1 .1 .0))
+    → (r ≡ s) × (now (e .1 .1 .1 .1 .1 .1 .1 .1 .1 .0) ≡ now (f .1 .1 .1 .1 .1 .1 .1 .1 .1 .0))
 one-answer-two-values κ a r s e f p q = same-left p q
 
 -- A plan is answered for accepted contents only, and the place then holds what is claimed of it.
@@ -76,19 +76,21 @@ a-plan-two-from-a-file-holds κ a plan e p bytes =
 -- the values and the place that a call is given; both entries over values take the same
 abbrev values : (κ : _) → ArgsD signature κ → FieldValues
 values κ a =
-    valuesGiven (now (a .0)) (now (a .1 .0)) (now (a .1 .1 .0)) (a .1 .1 .1 .0) (now (a .1 .1 .1 .1 .0)) (a .1 .1 .1 .1 .1 .0)
-    (now (a .1 .1 .1 .1 .1 .1 .0))
+    let behind = a .1 .1 .1 in
+    let last = behind .1 .1 in
+    valuesGiven (now (a .0)) (now (a .1 .0)) (now (a .1 .1 .0)) (behind .0) (now (behind .1 .0)) (last .0) (now (last .1 .0)) (last .1 .1 .0)
+    (now (last .1 .1 .1 .0))
 
 abbrev place : (κ : _) → ArgsD signature κ → List ℕ
-place κ a = now (a .1 .1 .1 .1 .1 .1 .1 .0)
+place κ a = now (a .1 .1 .1 .1 .1 .1 .1 .1 .1 .0)
 
 pub a-plan-one-from-values-holds : (κ : _) (a : _) (plan : Plan) (e : _) → one-values.Post κ a (Done plan) e → AreValues (values κ a)
-    → (c : Contents) × (readValues (values κ a) ≡ accepted c) × HoldsOne c plan (place κ a) (now (e .1 .1 .1 .1 .1 .1 .1 .0))
+    → (c : Contents) × (readValues (values κ a) ≡ accepted c) × HoldsOne c plan (place κ a) (now (e .1 .1 .1 .1 .1 .1 .1 .1 .1 .0))
 a-plan-one-from-values-holds κ a plan e p are =
     done-held madeOne HoldsOne one-holds (readValues (values κ a)) _ _ plan (λ c read. values-written-again (values κ a) c are read .0) p
 
 pub a-plan-two-from-values-holds : (κ : _) (a : _) (plan : Plan) (e : _) → two-values.Post κ a (Done plan) e → AreValues (values κ a)
-    → (c : Contents) × (readValues (values κ a) ≡ accepted c) × HoldsTwo c plan (place κ a) (now (e .1 .1 .1 .1 .1 .1 .1 .0))
+    → (c : Contents) × (readValues (values κ a) ≡ accepted c) × HoldsTwo c plan (place κ a) (now (e .1 .1 .1 .1 .1 .1 .1 .1 .1 .0))
 a-plan-two-from-values-holds κ a plan e p are =
     done-held madeTwo HoldsTwo two-holds (readValues (values κ a)) _ _ plan (λ c read. values-written-again (values κ a) c are read .0) p
 
@@ -96,13 +98,13 @@ a-plan-two-from-values-holds κ a plan e p are =
 module _ (planner : Contents → Made) (room : (c : Contents) → Valid c → length (scriptField (planner c)) ≤ enough-bytes)
     (reading : Reading) (valid : (c : Contents) → reading ≡ accepted c → Valid c) (Row : ℕ → ℕ → Type 0)
     (rows : (number at : ℕ) → (readingNumbers reading ≡ number ∷ at ∷ []) ↔ Row number at)
-    (below : (number at : ℕ) → readingNumbers reading ≡ number ∷ at ∷ [] → number ≤ 11) where
+    (numbers : (number at : ℕ) → readingNumbers reading ≡ number ∷ at ∷ [] → (number ≤ 11) ⊎ (number ≡ 50)) where
   refuses : (answer : Planned) (before after : List ℕ) → leftBy answer after ≡ planned planner reading before
       → Refuses planner reading Row answer before after
   refuses answer before after p =
       let is : answer ≡ (planned planner reading before) .answer = ap (λ (left : Left Planned). left .answer) p in
       let small : (at : ℕ) → (plannedNumbers answer ≡ 13 ∷ at ∷ []) ↔ TooSmall (λ c. scriptField (planner c)) reading before at =
-      λ at. rw is (refused-for-room planner reading before at (λ e. omega (arith, below 13 at e))) in
+      λ at. rw is (refused-for-room planner reading before at (λ e. ⊎-elim (λ low. omega arith) (λ is. omega arith) (numbers 13 at e))) in
       record {
         keeps =
             λ number at turned.
@@ -147,9 +149,9 @@ module _ (planner : Contents → Made) (room : (c : Contents) → Valid c → le
       (λ number at e. values-numbers (refused-values v number at .0 e .0))
 
 pub plan-one-values-refuses : (κ : _) (a : _) (r : Planned) (e : _) → one-values.Post κ a r e → AreValues (values κ a)
-    → Refuses madeOne (readValues (values κ a)) (ValuesRow (values κ a)) r (place κ a) (now (e .1 .1 .1 .1 .1 .1 .1 .0))
+    → Refuses madeOne (readValues (values κ a)) (ValuesRow (values κ a)) r (place κ a) (now (e .1 .1 .1 .1 .1 .1 .1 .1 .1 .0))
 plan-one-values-refuses κ a r e p are = values-refuse madeOne (λ c valid. room-for-every c valid .0) (values κ a) are r _ _ p
 
 pub plan-two-values-refuses : (κ : _) (a : _) (r : Planned) (e : _) → two-values.Post κ a r e → AreValues (values κ a)
-    → Refuses madeTwo (readValues (values κ a)) (ValuesRow (values κ a)) r (place κ a) (now (e .1 .1 .1 .1 .1 .1 .1 .0))
+    → Refuses madeTwo (readValues (values κ a)) (ValuesRow (values κ a)) r (place κ a) (now (e .1 .1 .1 .1 .1 .1 .1 .1 .1 .0))
 plan-two-values-refuses κ a r e p are = values-refuse madeTwo (λ c valid. room-for-every c valid .1) (values κ a) are r _ _ p

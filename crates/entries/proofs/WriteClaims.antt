@@ -3,6 +3,7 @@
 use Prim.Native.Nat.{ℕ}
 use native.Mathlib.Omega.{arith}
 use mathlib.Core.Path.{_≡_, refl, sym, ap}
+use mathlib.Core.Logic.{⊎-elim}
 use mathlib.Core.List.{List, [], _∷_}
 use lib.ListN.{length, drop}
 use lib.Seq.{take-at, drop-at}
@@ -65,9 +66,9 @@ pub gathered-written-again : GatheredWrittenAgain
 gathered-written-again file layout place b e =
     let (c, read, same) = gathered-file file layout b e in rw same (accepted-written-again file c place b read)
 
--- Refusal 13 is none of the values': the numbers of those are below it.
+-- Refusal 13 is none of the values': the numbers of those are below it, or 50.
 not-for-room : (v : FieldValues) (at : ℕ) → ¬ (readingNumbers (readValues v) ≡ 13 ∷ at ∷ [])
-not-for-room v at e = omega (arith, values-numbers (refused-values v 13 at .0 e .0))
+not-for-room v at e = ⊎-elim (λ low. omega arith) (λ is. omega arith) (values-numbers (refused-values v 13 at .0 e .0))
 
 pub refused-for-room : RefusedForRoom
 unfolding writtenValues writing writtenNumbers

@@ -3,19 +3,22 @@
 use Prim.Native.Nat.{ℕ}
 use mathlib.Core.Bool.{Bool, cond}
 use mathlib.Core.List.{List}
+use mathlib.Core.Option.{Option}
 use lib.ListN.{length}
-use Rattle.policy.specs.Policy.{decide, matching}
+use Rattle.policy.specs.Policy.{Policy, under, decide, matching}
+use Rattle.policy.specs.Rule.{Rule}
 use Rattle.policy.specs.Replay.{Replayed, replay}
 use Rattle.policy.specs.Judge.{verdict}
 use Rattle.policy.specs.declared.Decision.{Decision}
 use Rattle.policy.specs.declared.Flow.{Flow}
 use Rattle.deployment.specs.Checked.{Checked, good, bad, _>>=_}
-use Rattle.deployment.specs.Contents.{Contents}
+use Rattle.deployment.specs.Contents.{Contents, initialPolicy, targetPolicy}
 use Rattle.deployment.specs.File.{Reading, fileOf}
 use Rattle.deployment.specs.FieldValues.{
   FieldValues,
   catalogueValue,
   policyValue,
+  defaultValue,
   readValues,
   answered,
   answeredAtZero,
@@ -40,21 +43,29 @@ use Rattle.entries.specs.declared.Decided.the-variants as decided
 
 -- "A flow is decided by the first rule that matches": by the target policy, if asked for, or else by the initial one
 unfoldable pub decidedContents : Bool → Flow → Contents → Decision
-decidedContents of-target flow c = decide (matching (c .catalogue) flow) (cond of-target (c .target) (c .initial))
+decidedContents of-target flow c = decide (matching (c .catalogue) flow) (cond of-target (targetPolicy c) (initialPolicy c))
 
 unfoldable pub decidedReading : Bool → Flow → Reading → Decided
 decidedReading of-target flow reading = answered (λ c. decided.Is (decidedContents of-target flow c)) decided.Turned reading
 
--- "4 for rules not of 27 bytes each, 7, then 5 and 6 rule by rule, then 4, 8, 9" for the policy: what decides flows
-unfoldable pub decidingValues : List ℕ → List ℕ → Checked (Flow → Decision)
-decidingValues rules value = do
+-- rules and a policy over them, which is a list together with its default: "4 for rules not of 27 bytes each, 7, then 5 and 6 rule by rule, then
+-- 4, 8, 9", 4, 50 (02, L1)
+unfoldable pub policyTested : List ℕ → List ℕ → Option (List ℕ) → Checked (List Rule × Policy)
+policyTested rules value default-value = do
   catalogue ← catalogueValue rules
-  policy ← policyValue (length catalogue) value
-  good (λ flow. decide (matching catalogue flow) policy)
+  list ← policyValue (length catalogue) value
+  default ← defaultValue default-value
+  good (catalogue, under default list)
 
-unfoldable pub decidedValues : List ℕ → List ℕ → Flow → Checked Decision
-decidedValues rules value flow = do
-  decides ← decidingValues rules value
+-- what decides flows
+unfoldable pub decidingValues : List ℕ → List ℕ → Option (List ℕ) → Checked (Flow → Decision)
+decidingValues rules value default-value = do
+  passed ← policyTested rules value default-value
+  good (λ flow. decide (matching (passed .0) flow) (passed .1))
+
+unfoldable pub decidedValues : List ℕ → List ℕ → Option (List ℕ) → Flow → Checked Decision
+decidedValues rules value default-value flow = do
+  decides ← decidingValues rules value default-value
   good (decides flow)
 
 unfoldable pub decidedAtZero : Checked Decision → Decided
@@ -75,11 +86,11 @@ replayedContents c = replay (length (c .catalogue)) (c .initial) (commandsOf (c 
 unfoldable pub replayedReading : Reading → List ℕ → Left Ran
 replayedReading reading place = answered (λ c. replayLeft place (replayedContents c)) (leftAlone ran.Turned place) reading
 
--- "4 for rules not of 27 bytes each, 7, then 5 and 6 rule by rule" before the policy and the script
-unfoldable pub replayedValues : List ℕ → List ℕ → List ℕ → Checked Replayed
-replayedValues rules initial script = do
-  catalogue ← catalogueValue rules
-  replayedOver (length catalogue) initial script
+-- the same tests before those of the script; a command edits the list and leaves the default
+unfoldable pub replayedValues : List ℕ → List ℕ → Option (List ℕ) → List ℕ → Checked Replayed
+replayedValues rules initial default-value script = do
+  passed ← policyTested rules initial default-value
+  replayedOver (length (passed .0)) initial script
 
 -- a plan
 unfoldable pub planned : (Contents → Made) → Reading → List ℕ → Left Planned

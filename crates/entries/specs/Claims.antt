@@ -4,6 +4,7 @@ use Prim.Native.Nat.{ℕ, _<_}
 use mathlib.Core.Path.{_≡_}
 use mathlib.Core.Bool.{Bool}
 use mathlib.Core.List.{List}
+use mathlib.Core.Option.{Option}
 use Rattle.policy.specs.declared.Flow.{Flow}
 use Rattle.deployment.specs.File.{readFile}
 use Rattle.deployment.specs.Properties.{AreBytes}
@@ -24,10 +25,10 @@ FileFlowsDecided =
 -- .. and what `lists::decide` answers.
 abbrev pub ValuesFlowsDecided : Type 0
 ValuesFlowsDecided =
-    (rules policy flows place : List ℕ) (n k : ℕ)
-    → (flowsAtZero (decidingValues rules policy) flows place) .answer ≡ Bytes n → k < flow-count flows
-    → decidedAtZero (decidedValues rules policy (flowAt k flows))
-    ≡ decided.Is (decisionAt k ((flowsAtZero (decidingValues rules policy) flows place) .place))
+    (rules policy : List ℕ) (default : Option (List ℕ)) (flows place : List ℕ) (n k : ℕ)
+    → (flowsAtZero (decidingValues rules policy default) flows place) .answer ≡ Bytes n → k < flow-count flows
+    → decidedAtZero (decidedValues rules policy default (flowAt k flows))
+    ≡ decided.Is (decisionAt k ((flowsAtZero (decidingValues rules policy default) flows place) .place))
 
 -- What turns a single flow away turns them all away, with the same number at the same position, whatever the flows and the place are.
 abbrev pub FileFlowsRefused : Type 0
@@ -38,12 +39,12 @@ FileFlowsRefused =
 
 abbrev pub ValuesFlowsRefused : Type 0
 ValuesFlowsRefused =
-    (rules policy flows place : List ℕ) (flow : Flow) (refusal : Refusal)
-    → decidedAtZero (decidedValues rules policy flow) ≡ decided.Turned refusal
-    → (flowsAtZero (decidingValues rules policy) flows place) .answer ≡ Turned refusal
+    (rules policy : List ℕ) (default : Option (List ℕ)) (flows place : List ℕ) (flow : Flow) (refusal : Refusal)
+    → decidedAtZero (decidedValues rules policy default flow) ≡ decided.Turned refusal
+    → (flowsAtZero (decidingValues rules policy default) flows place) .answer ≡ Turned refusal
 
 abbrev pub FileFlowsKeepRest : Type 0
 FileFlowsKeepRest = (of-target : Bool) (file flows place : List ℕ) → KeepsRest place (flowsReading of-target flows (readFile file) place)
 
 abbrev pub ValuesFlowsKeepRest : Type 0
-ValuesFlowsKeepRest = (rules policy flows place : List ℕ) → KeepsRest place (flowsAtZero (decidingValues rules policy) flows place)
+ValuesFlowsKeepRest = (rules policy : List ℕ) (default : Option (List ℕ)) (flows place : List ℕ) → KeepsRest place (flowsAtZero (decidingValues rules policy default) flows place)

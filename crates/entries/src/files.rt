@@ -10,6 +10,7 @@ ghost use Rattle.plans.specs.Plans.{madeOne, madeTwo};
 ghost use Rattle.entries.specs.Answers.{decidedReading, flowsReading, replayedReading, planned, judgedReading};
 use super::Decided;
 use decision::decided;
+use decision::default_of;
 use deployment::Written;
 use flows::decide_into;
 use format::HEAD_BYTES;
@@ -63,6 +64,7 @@ pub fn decide(file: &[u8], of_target: bool, flow: Flow) -> Decided
                 value(file, rules),
                 HEAD_BYTES as u8,
                 value(file, list),
+                default_of(layout.has_default),
                 flow,
             ))
         }
@@ -86,6 +88,7 @@ pub fn decide_flows(file: &[u8], of_target: bool, flows: &[u8], place: &mut [u8]
                 value(file, rules),
                 HEAD_BYTES as u8,
                 value(file, list),
+                default_of(layout.has_default),
                 flows,
                 place,
             )

@@ -1,6 +1,7 @@
-// Runs the entries on rows of cases and prints each whole answer, with a checksum of the place that was lent. Each argument names a row. A case is eleven
-// numbers of two bytes (is it about field values, is there a keep list, is there a script, the size of the place, a flow whose addresses have two numbers
-// each), then its parts, themselves a row: the file; or the rules, both policies, the keep list and the script; and last flows, for entries that take many.
+// Runs the entries on rows of cases and prints each whole answer, with a checksum of the place that was lent. Each argument names a row. A case is twelve
+// numbers of two bytes (is it about field values, is there a default, is there a keep list, is there a script, the size of the place, a flow whose addresses
+// have two numbers each), then its parts, themselves a row: the file; or the rules, both policies, the default, the keep list and the script; and last flows,
+// for entries that take many.
 
 use cases::bytes_at;
 use cases::checksum;
@@ -92,28 +93,30 @@ const BYTES: usize = 28;
 // Which number of a case is which; an address is two of them.
 const OVER_LISTS: usize = 0;
 
-const HAS_KEEP: usize = 1;
+const HAS_DEFAULT: usize = 1;
 
-const HAS_SCRIPT: usize = 2;
+const HAS_KEEP: usize = 2;
 
-const ROOM: usize = 3;
+const HAS_SCRIPT: usize = 3;
 
-const PROTOCOL: usize = 4;
+const ROOM: usize = 4;
 
-const SOURCE: usize = 5;
+const PROTOCOL: usize = 5;
 
-const SOURCE_LOW: usize = 6;
+const SOURCE: usize = 6;
 
-const SOURCE_PORT: usize = 7;
+const SOURCE_LOW: usize = 7;
 
-const DESTINATION: usize = 8;
+const SOURCE_PORT: usize = 8;
 
-const DESTINATION_LOW: usize = 9;
+const DESTINATION: usize = 9;
 
-const DESTINATION_PORT: usize = 10;
+const DESTINATION_LOW: usize = 10;
+
+const DESTINATION_PORT: usize = 11;
 
 // Where the parts of a case begin.
-const PARTS: usize = 22;
+const PARTS: usize = 24;
 
 // Which part is which.
 const FILE: usize = 0;
@@ -126,11 +129,13 @@ const INITIAL: usize = 1;
 
 const TARGET: usize = 2;
 
-const KEEP: usize = 3;
+const DEFAULT: usize = 3;
 
-const SCRIPT: usize = 4;
+const KEEP: usize = 4;
 
-const FLOWS: usize = 5;
+const SCRIPT: usize = 5;
+
+const FLOWS: usize = 6;
 
 // The place where the part with this number starts, of those that start at a place of a row.
 fn part_place(row: &[u8], from: usize, number: usize) -> usize {
@@ -266,33 +271,59 @@ fn read_file(words: &[u8], file: &[u8], flow: Flow) {
     print_judged(words, files::judge(file));
 }
 
+fn check_lists(case: &[u8]) -> Checking {
+    lists::check(
+        part(case, RULES),
+        part(case, INITIAL),
+        part(case, TARGET),
+        number_at(case, HAS_DEFAULT) == 1,
+        part(case, DEFAULT),
+        number_at(case, HAS_KEEP) == 1,
+        part(case, KEEP),
+        number_at(case, HAS_SCRIPT) == 1,
+        part(case, SCRIPT),
+    )
+}
+
+fn decide_list(case: &[u8], list: usize, flow: Flow) -> Decided {
+    lists::decide(
+        part(case, RULES),
+        part(case, list),
+        number_at(case, HAS_DEFAULT) == 1,
+        part(case, DEFAULT),
+        flow,
+    )
+}
+
+fn judge_lists(case: &[u8]) -> Judged {
+    lists::judge(
+        part(case, RULES),
+        part(case, INITIAL),
+        part(case, TARGET),
+        number_at(case, HAS_DEFAULT) == 1,
+        part(case, DEFAULT),
+        number_at(case, HAS_KEEP) == 1,
+        part(case, KEEP),
+        part(case, SCRIPT),
+    )
+}
+
 fn read_lists(words: &[u8], case: &[u8], flow: Flow) {
-    let rules = part(case, RULES);
-    let initial = part(case, INITIAL);
-    let target = part(case, TARGET);
-    let has_keep = number_at(case, HAS_KEEP) == 1;
-    let keep = part(case, KEEP);
-    let has_script = number_at(case, HAS_SCRIPT) == 1;
-    let script = part(case, SCRIPT);
-    print_checking(
-        words,
-        lists::check(rules, initial, target, has_keep, keep, has_script, script),
-    );
+    print_checking(words, check_lists(case));
     print(words, INITIAL_IS);
-    print_decided(words, lists::decide(rules, initial, flow));
+    print_decided(words, decide_list(case, INITIAL, flow));
     print(words, TARGET_IS);
-    print_decided(words, lists::decide(rules, target, flow));
+    print_decided(words, decide_list(case, TARGET, flow));
     print(words, JUDGE);
-    print_judged(
-        words,
-        lists::judge(rules, initial, target, has_keep, keep, script),
-    );
+    print_judged(words, judge_lists(case));
 }
 
 fn plan_lists(case: &[u8], second: bool, place: &mut [u8]) -> Planned {
     let rules = part(case, RULES);
     let initial = part(case, INITIAL);
     let target = part(case, TARGET);
+    let has_default = number_at(case, HAS_DEFAULT) == 1;
+    let default = part(case, DEFAULT);
     let has_keep = number_at(case, HAS_KEEP) == 1;
     let keep = part(case, KEEP);
     let has_script = number_at(case, HAS_SCRIPT) == 1;
@@ -302,6 +333,8 @@ fn plan_lists(case: &[u8], second: bool, place: &mut [u8]) -> Planned {
             rules,
             initial,
             target,
+            has_default,
+            default,
             has_keep,
             keep,
             has_script,
@@ -313,6 +346,8 @@ fn plan_lists(case: &[u8], second: bool, place: &mut [u8]) -> Planned {
             rules,
             initial,
             target,
+            has_default,
+            default,
             has_keep,
             keep,
             has_script,
@@ -326,6 +361,8 @@ fn replay_lists(case: &[u8], place: &mut [u8]) -> Ran {
     lists::replay(
         part(case, RULES),
         part(case, INITIAL),
+        number_at(case, HAS_DEFAULT) == 1,
+        part(case, DEFAULT),
         part(case, SCRIPT),
         place,
     )
@@ -335,6 +372,8 @@ fn decide_lists(case: &[u8], list: usize, place: &mut [u8]) -> Written {
     lists::decide_flows(
         part(case, RULES),
         part(case, list),
+        number_at(case, HAS_DEFAULT) == 1,
+        part(case, DEFAULT),
         part(case, FLOWS),
         place,
     )

@@ -4,7 +4,7 @@ ghost use mathlib.Core.Path.{_≡_};
 ghost use mathlib.Core.List.{map};
 ghost use Prim.Native.Nat.{_*_, _/_, _≤_, _<_};
 ghost use lib.ListN.{length};
-ghost use Rattle.policy.specs.Policy.{decide, matching};
+ghost use Rattle.policy.specs.Policy.{under, decide, matching};
 ghost use Rattle.deployment.specs.Values.{actionNumber, numbersOf};
 ghost use Rattle.deployment.specs.Catalogue.{catalogueOf};
 ghost use Rattle.deployment.specs.FieldValues.{filled, leftBy};
@@ -68,31 +68,47 @@ fn decision_bytes(d: Decision) -> [u8; 3]
 }
 
 // The decision of each flow, one after another, in the first bytes of the place.
-fn put_decisions(rules: &[u8], skip: u8, policy: &[u8], flows: &[u8], place: &mut [u8])
+fn put_decisions(
+    rules: &[u8],
+    skip: u8,
+    policy: &[u8],
+    default: Action,
+    flows: &[u8],
+    place: &mut [u8],
+)
     requires { ⌜ 3 * (length (now flows) / 13) ≤ length (now place) ⌝ }
     ensures { λ _. ⌜
         now (place .exit)
         ≡ filled (now (place .entry))
         (decisionsBytes
-        (map (λ flow. decide (matching (catalogueOf skip (now (rules .entry))) flow) (numbersOf (now (policy .entry)))) (flowsOf (now (flows .entry)))))
+        (map (λ flow. decide (matching (catalogueOf skip (now (rules .entry))) flow) (under default (numbersOf (now (policy .entry)))))
+        (flowsOf (now (flows .entry)))))
         ⌝ }
 {
     let count = flows.len() / FLOW_BYTES;
     let mut k = 0;
     while k < count {
         let flow = flow_at(flows, k);
-        let bytes = decision_bytes(decided(rules, skip, policy, flow));
+        let bytes = decision_bytes(decided(rules, skip, policy, default, flow));
         store(place, DECISION_BYTES * k, &bytes);
         k += 1;
     }
 }
 
-// Decides flows by a policy that passed its tests; `skip` bytes stand before each rule. 4 for flows not of 13 bytes each, and last 13.
-pub fn decide_into(rules: &[u8], skip: u8, policy: &[u8], flows: &[u8], place: &mut [u8]) -> Written
+// Decides flows by a policy that passed its tests, a list and a default; `skip` bytes stand before each rule. 4 for flows not of 13 bytes
+// each, and last 13.
+pub fn decide_into(
+    rules: &[u8],
+    skip: u8,
+    policy: &[u8],
+    default: Action,
+    flows: &[u8],
+    place: &mut [u8],
+) -> Written
     ensures { λ r. ⌜
         leftBy r (now (place .exit))
         ≡ flowsDecided
-        (λ flow. decide (matching (catalogueOf skip (now (rules .entry))) flow) (numbersOf (now (policy .entry))))
+        (λ flow. decide (matching (catalogueOf skip (now (rules .entry))) flow) (under default (numbersOf (now (policy .entry)))))
         (now (flows .entry)) (now (place .entry))
         ⌝ }
 {
@@ -109,6 +125,6 @@ pub fn decide_into(rules: &[u8], skip: u8, policy: &[u8], flows: &[u8], place: &
             at: needed,
         });
     }
-    put_decisions(rules, skip, policy, flows, place);
+    put_decisions(rules, skip, policy, default, flows, place);
     Written::Bytes(needed)
 }

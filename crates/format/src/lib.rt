@@ -15,7 +15,7 @@ ghost use Rattle.deployment.specs.Catalogue.{recordsOf};
 use policy::MOST_RULES;
 use running::Running;
 
-// The tags: "01 a rule, 02 initial policy, 03 target policy, 04 keep list, 05 script".
+// The tags: "01 a rule, 02 initial policy, 03 target policy, 04 keep list, 05 script"; and 06 a default.
 pub const RULE_TAG: u8 = 1;
 
 pub const INITIAL_TAG: u8 = 2;
@@ -26,6 +26,8 @@ pub const KEEP_TAG: u8 = 4;
 
 pub const SCRIPT_TAG: u8 = 5;
 
+pub const DEFAULT_TAG: u8 = 6;
+
 // "a one-byte tag, a two-byte length"
 pub const HEAD_BYTES: usize = 3;
 
@@ -34,6 +36,11 @@ pub const RULE_BYTES: usize = 27;
 
 // A rule's field: its head and its value.
 pub const RULE_FIELD_BYTES: usize = HEAD_BYTES + RULE_BYTES;
+
+// A default, "length 1", and its "value 1 means permit".
+pub const DEFAULT_BYTES: usize = 1;
+
+pub const PERMIT: u8 = 1;
 
 // "two-byte rule numbers"
 pub const NUMBER_BYTES: usize = 2;

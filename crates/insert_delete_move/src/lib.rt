@@ -5,7 +5,7 @@ ghost use mathlib.Core.Path.{_≡_};
 ghost use Prim.Native.Nat.{_≤_};
 ghost use lib.ListN.{length};
 ghost use Rattle.policy.specs.InsertDeleteMove.{ownChoice};
-ghost use Rattle.policy.specs.Claims.{Policy, Accepted};
+ghost use Rattle.policy.specs.Claims.{Admitted, Accepted};
 ghost use Rattle.policy.specs.Policy.{most-rules, most-listed};
 ghost use Rattle.running.specs.Running.{view};
 ghost use Rattle.deployment.specs.Values.{numbersOf};
@@ -29,7 +29,7 @@ use second_stage::stage_two;
 
 // "Go through the target in order and keep each common rule that stands in the initial policy after the last one kept."
 fn own_choice(initial: Running, target: Running) -> Running
-    requires { ⌜ Policy most-rules (view initial) × Policy most-rules (view target) ⌝ }
+    requires { ⌜ Admitted most-rules (view initial) × Admitted most-rules (view target) ⌝ }
     ensures { λ k. ⌜ view k ≡ ownChoice (view initial) (view target) ⌝ }
 {
     let of = places_of(initial);

@@ -1,5 +1,5 @@
--- The claims about verdicts. The idea: the policies name no rule twice, so the claims about `verdict` apply, row by row. A number below 20 is a
--- refusal's, one from 20 on a verdict's. Assumes nothing.
+-- The claims about verdicts. The idea: the policies name no rule twice, so the claims about `verdict` apply, row by row. A number from 20 on
+-- and below 50 is a verdict's, every other a refusal's. Assumes nothing.
 use Prim.Native.Nat.{ℕ}
 use native.Mathlib.Omega.{arith}
 use mathlib.Core.Path.{_≡_, refl, sym, ap, subst}
@@ -11,11 +11,11 @@ use Rattle.policy.specs.Properties.{Distinct}
 use Rattle.policy.specs.declared.Command.{Command}
 use Rattle.policy.specs.declared.Verdict.{Verdict}
 use Rattle.policy.specs.declared.Verdict.the-variants.{Broken, Elsewhere, Unordered, NotFull, Safe}
-use Rattle.policy.proofs.Numbers.{verdict-numbers-differ, fault-below, verdict-from}
+use Rattle.policy.proofs.Numbers.{verdict-numbers-differ, fault-below, verdict-from, verdict-below}
 use Rattle.policy.proofs.Commands.{fails-below}
 use Rattle.policy.proofs.Judge.{verdict-broken, verdict-elsewhere, verdict-unordered, verdict-not-full, verdict-safe}
 use Rattle.deployment.specs.Checked.{refusalNumbers}
-use Rattle.deployment.proofs.Numbers.{why-small, refusal-numbers-differ}
+use Rattle.deployment.proofs.Numbers.{why-apart, refusal-numbers-differ}
 use Rattle.judge.specs.Answers.{judgedNumbers}
 use Rattle.judge.specs.Claims.{Row, breaks, elsewhere, unordered, not-full, safe}
 use Rattle.judge.specs.Claims.{JudgedNumbersDiffer, VerdictByRow, VerdictNoRefusal}
@@ -25,7 +25,8 @@ use Rattle.judge.specs.declared.Judged.the-variants.{Said, Turned}
 pub verdict-no-refusal : VerdictNoRefusal
 unfolding refusalNumbers
 verdict-no-refusal v refusal e =
-    omega (arith, verdict-from v, ap (λ (numbers : List ℕ). getD numbers 0 0) e, why-small (refusal .why))
+    let same = ap (λ (numbers : List ℕ). getD numbers 0 0) e in
+    omega (arith, verdict-below v, same, why-apart (refusal .why) (omega (arith, verdict-from v, same)))
 
 pub judged-numbers-differ : JudgedNumbersDiffer
 unfolding judgedNumbers

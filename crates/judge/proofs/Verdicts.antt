@@ -10,7 +10,7 @@ use mathlib.Core.List.{List, [], _∷_}
 use mathlib.Core.Option.{Option, none, some}
 use lib.ListN.{length, take, drop, replicate, drop-of-length-le}
 use lib.Seq.{take-all}
-use Rattle.policy.specs.Claims.{Policy}
+use Rattle.policy.specs.Claims.{Admitted}
 use Rattle.policy.specs.Policy.{most-rules}
 use Rattle.policy.specs.Lists.{all, same}
 use Rattle.policy.specs.Command.{passed, failed, step}
@@ -163,7 +163,7 @@ module _ (initial target : List ℕ) (size : ℕ) (value : List ℕ) (readable :
         rw (← at) (rw none-left at left)
 
 -- What the tests of a list go by, in a replay over accepted policies.
-pub judging : (size : ℕ) (initial target places l : List ℕ) → Policy size initial → Policy size target → Sound size l places
+pub judging : (size : ℕ) (initial target places l : List ℕ) → Admitted size initial → Admitted size target → Sound size l places
     → Judging initial target places l
 judging size initial target places l first last sound = record {
   listed = record { says = sound .says; distinct = sound .policy .distinct };
@@ -172,7 +172,7 @@ judging size initial target places l first last sound = record {
 }
 
 -- the state that the judge starts from
-pub starts : (size : ℕ) {l m policy places : List ℕ} → size ≤ most-rules → Policy size policy → l ≡ m → m ≡ take 1024 policy
+pub starts : (size : ℕ) {l m policy places : List ℕ} → size ≤ most-rules → Admitted size policy → l ≡ m → m ≡ take 1024 policy
     → places ≡ renumbered 1 m (replicate 1024 0) → (l ≡ policy) × Sound size l places
 starts size {policy} small known shown listed numbered =
     let whole : take 1024 policy ≡ policy = take-all 1024 policy (omega (arith, inside-length size policy (known .distinct) (known .inside))) in (

@@ -3,10 +3,9 @@
 -- nothing.
 use Prim.Native.Nat.{ℕ}
 use mathlib.Core.Path.{_≡_}
-use mathlib.Core.Logic.{_⊎_, _↔_, _≢_}
+use mathlib.Core.Logic.{_↔_, _≢_}
 use mathlib.Core.List.{List, [], _∷_}
 use lib.ListN.{length}
-use Rattle.policy.specs.Policy.{Matching, decided}
 use Rattle.policy.specs.Judge.{verdict, verdictNumbers}
 use Rattle.policy.specs.Properties.{Distinct, Full, Leads, After}
 use Rattle.policy.specs.Claims.{BreaksAt, FirstUnordered, AllOrdered}
@@ -34,11 +33,6 @@ pub data Row (size : ℕ) (initial target : List ℕ) (script : List Command) : 
   safe : Leads size initial script target → AllOrdered size initial target script
       → ((k : ℕ) (l : List ℕ) → After size initial script k l → Full initial target l)
       → Row size initial target script (32 ∷ [])
-
--- every list on the way decides every flow as one of the two policies does
-abbrev pub DecidesAsOne : ℕ → List ℕ → List ℕ → List Command → Type 0
-DecidesAsOne size initial target script =
-    (m : Matching) (k : ℕ) (l : List ℕ) → After size initial script k l → (decided m l ≡ decided m initial) ⊎ (decided m l ≡ decided m target)
 
 -- One is the verdict, with its values, exactly when its row of the table says so.
 abbrev pub VerdictByRow : Type 0

@@ -4,7 +4,7 @@ ghost use mathlib.Core.Path.{_≡_};
 ghost use Prim.Native.Nat.{_≤_};
 ghost use Rattle.policy.specs.Judge.{verdict};
 ghost use Rattle.deployment.specs.Values.{numbersOf, scriptOf};
-ghost use Rattle.policy.specs.Claims.{Policy};
+ghost use Rattle.policy.specs.Claims.{Admitted};
 ghost use Rattle.policy.specs.Lists.{same};
 ghost use Rattle.policy.specs.Policy.{most-rules};
 ghost use Rattle.running.specs.Running.{view};
@@ -89,7 +89,7 @@ fn ends_at(state: Replaying, policy: &[u8]) -> bool
 // The verdict on a script of accepted values. "The judge replays from the initial policy; the lists judged are the initial one (step 0) and
 // the one after each command."
 pub fn verdict_of(size: usize, initial: &[u8], target: &[u8], script: &[u8]) -> Verdict
-    requires { ⌜ (size ≤ most-rules) × Policy size (numbersOf (now initial)) × Policy size (numbersOf (now target)) × Readable (now script) ⌝ }
+    requires { ⌜ (size ≤ most-rules) × Admitted size (numbersOf (now initial)) × Admitted size (numbersOf (now target)) × Readable (now script) ⌝ }
     ensures { λ v.
         ⌜ v ≡ verdict size (numbersOf (now (initial .entry))) (numbersOf (now (target .entry))) (commandsOf (scriptOf (now (script .entry)))) ⌝ }
 {

@@ -14,4 +14,4 @@ pub first-example-printed : FirstExamplePrinted
 unfolding first-example all pick mem contains before after without missing same ruleAt lifted placed moved keptRun planOne
     ownChoice keptTwo inserted reached moveUp already raised left takeOne takeAll firstStage ahead takeWaiting secondStage planTwo
     madeOneOf madeOne madeTwoOf madeTwo text digits decimal spaced named commandText lineText linesText headText blockText plans planBlock blocksText planText
-first-example-printed = refl
+first-example-printed default = refl

@@ -19,7 +19,7 @@ pub fn fault_number(fault: Fault) -> u8
     }
 }
 
-// Numbers 1 to 13 of "Turned away".
+// Numbers 1 to 13 of "Turned away", and 50.
 pub fn why_number(why: Why) -> u8
     ensures { λ n. ⌜ n ≡ whyNumber why ⌝ }
 {
@@ -37,5 +37,6 @@ pub fn why_number(why: Why) -> u8
         Why::Coding => 11,
         Why::NoScript => 12,
         Why::Room => 13,
+        Why::Default => 50,
     }
 }

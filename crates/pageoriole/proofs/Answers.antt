@@ -77,33 +77,33 @@ pub one-show-text : (κ : _) (a : _) (r s : ℕ) (e f : _) → show-text.Post κ
 one-show-text κ a r s e f p q = one-left p q
 
 pub one-check : (κ : _) (a : _) (r s : ℕ) (e f : _) → check.Post κ a r e → check.Post κ a s f
-    → (r ≡ s) × (now (e .1 .1 .1 .1 .1 .1 .1 .0) ≡ now (f .1 .1 .1 .1 .1 .1 .1 .0))
+    → (r ≡ s) × (now (e .1 .1 .1 .1 .1 .1 .1 .1 .1 .0) ≡ now (f .1 .1 .1 .1 .1 .1 .1 .1 .1 .0))
 one-check κ a r s e f p q = one-told p q
 
 pub one-write : (κ : _) (a : _) (r s : ℕ) (e f : _) → write.Post κ a r e → write.Post κ a s f
-    → (r ≡ s) × (now (e .1 .1 .1 .1 .1 .1 .1 .1 .0) ≡ now (f .1 .1 .1 .1 .1 .1 .1 .1 .0)) × (now (e .1 .1 .1 .1 .1 .1 .1 .0) ≡ now (f .1 .1 .1 .1 .1 .1 .1 .0))
+    → (r ≡ s) × (now (e .1 .1 .1 .1 .1 .1 .1 .1 .1 .1 .0) ≡ now (f .1 .1 .1 .1 .1 .1 .1 .1 .1 .1 .0)) × (now (e .1 .1 .1 .1 .1 .1 .1 .1 .1 .0) ≡ now (f .1 .1 .1 .1 .1 .1 .1 .1 .1 .0))
 one-write κ a r s e f p q = one-left p q
 
 pub one-decide : (κ : _) (a : _) (r s : ℕ) (e f : _) → decide.Post κ a r e → decide.Post κ a s f
-    → (r ≡ s) × (now (e .1 .1 .1 .1 .1 .1 .1 .0) ≡ now (f .1 .1 .1 .1 .1 .1 .1 .0))
+    → (r ≡ s) × (now (e .1 .1 .1 .1 .1 .1 .1 .1 .1 .0) ≡ now (f .1 .1 .1 .1 .1 .1 .1 .1 .1 .0))
 one-decide κ a r s e f p q = one-told p q
 
 pub one-decide-flows : (κ : _) (a : _) (r s : ℕ) (e f : _) → decide-flows.Post κ a r e → decide-flows.Post κ a s f
-    → (r ≡ s) × (now (e .1 .1 .1 .1 .0) ≡ now (f .1 .1 .1 .1 .0)) × (now (e .1 .1 .1 .0) ≡ now (f .1 .1 .1 .0))
+    → (r ≡ s) × (now (e .1 .1 .1 .1 .1 .1 .0) ≡ now (f .1 .1 .1 .1 .1 .1 .0)) × (now (e .1 .1 .1 .1 .1 .0) ≡ now (f .1 .1 .1 .1 .1 .0))
 one-decide-flows κ a r s e f p q = one-left p q
 
 pub one-replay : (κ : _) (a : _) (r s : ℕ) (e f : _) → replay.Post κ a r e → replay.Post κ a s f
-    → (r ≡ s) × (now (e .1 .1 .1 .1 .0) ≡ now (f .1 .1 .1 .1 .0)) × (now (e .1 .1 .1 .0) ≡ now (f .1 .1 .1 .0))
+    → (r ≡ s) × (now (e .1 .1 .1 .1 .1 .1 .0) ≡ now (f .1 .1 .1 .1 .1 .1 .0)) × (now (e .1 .1 .1 .1 .1 .0) ≡ now (f .1 .1 .1 .1 .1 .0))
 one-replay κ a r s e f p q = one-left p q
 
 pub one-plan-one : (κ : _) (a : _) (r s : ℕ) (e f : _) → plan-one.Post κ a r e → plan-one.Post κ a s f
-    → (r ≡ s) × (now (e .1 .1 .1 .1 .1 .1 .1 .1 .0) ≡ now (f .1 .1 .1 .1 .1 .1 .1 .1 .0)) × (now (e .1 .1 .1 .1 .1 .1 .1 .0) ≡ now (f .1 .1 .1 .1 .1 .1 .1 .0))
+    → (r ≡ s) × (now (e .1 .1 .1 .1 .1 .1 .1 .1 .1 .1 .0) ≡ now (f .1 .1 .1 .1 .1 .1 .1 .1 .1 .1 .0)) × (now (e .1 .1 .1 .1 .1 .1 .1 .1 .1 .0) ≡ now (f .1 .1 .1 .1 .1 .1 .1 .1 .1 .0))
 one-plan-one κ a r s e f p q = one-left p q
 
 pub one-plan-two : (κ : _) (a : _) (r s : ℕ) (e f : _) → plan-two.Post κ a r e → plan-two.Post κ a s f
-    → (r ≡ s) × (now (e .1 .1 .1 .1 .1 .1 .1 .1 .0) ≡ now (f .1 .1 .1 .1 .1 .1 .1 .1 .0)) × (now (e .1 .1 .1 .1 .1 .1 .1 .0) ≡ now (f .1 .1 .1 .1 .1 .1 .1 .0))
+    → (r ≡ s) × (now (e .1 .1 .1 .1 .1 .1 .1 .1 .1 .1 .0) ≡ now (f .1 .1 .1 .1 .1 .1 .1 .1 .1 .1 .0)) × (now (e .1 .1 .1 .1 .1 .1 .1 .1 .1 .0) ≡ now (f .1 .1 .1 .1 .1 .1 .1 .1 .1 .0))
 one-plan-two κ a r s e f p q = one-left p q
 
 pub one-judge : (κ : _) (a : _) (r s : ℕ) (e f : _) → judge.Post κ a r e → judge.Post κ a s f
-    → (r ≡ s) × (now (e .1 .1 .1 .1 .1 .1 .0) ≡ now (f .1 .1 .1 .1 .1 .1 .0))
+    → (r ≡ s) × (now (e .1 .1 .1 .1 .1 .1 .1 .1 .0) ≡ now (f .1 .1 .1 .1 .1 .1 .1 .1 .0))
 one-judge κ a r s e f p q = one-told p q

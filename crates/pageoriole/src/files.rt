@@ -30,7 +30,8 @@ use told::tell_ran;
 use told::tell_read;
 use told::tell_written;
 
-// Reads a file: rules; start and size of initial and target policy; whether there is a keep list, its start and size; and so for the script.
+// Reads a file: rules; start and size of initial and target policy; whether there is a default, its start and size; and so for the keep list and
+// the script.
 #[no_mangle]
 pub extern "C" fn pageoriole_read(file: &[u8], answer: &mut [u64]) -> u32
     ensures { λ n. ⌜ Tells (readTold (fileRead (now (file .entry)))) n (now (answer .entry)) (now (answer .exit)) ⌝ }

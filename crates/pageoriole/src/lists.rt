@@ -1,10 +1,10 @@
-// Over field values: each entry as a function that C can call. The number is returned, its values stand in `answer`; the keep list and the
-// script are there if their `has_` says so.
+// Over field values: each entry as a function that C can call. The number is returned, its values stand in `answer`; the default, the
+// keep list and the script are there if their `has_` says so.
 
 ghost use mathlib.Core.Bool.{true};
 ghost use Rattle.deployment.specs.FieldValues.{readValues, valuesRead};
 ghost use Rattle.catalogue.specs.Answers.{checking};
-ghost use Rattle.values.specs.Answers.{valuesGiven};
+ghost use Rattle.values.specs.Answers.{given, valuesGiven};
 ghost use Rattle.entries.specs.Answers.{writtenValues};
 ghost use Rattle.plans.specs.Plans.{madeOne, madeTwo};
 ghost use Rattle.entries.specs.Answers.{planned};
@@ -35,6 +35,8 @@ pub extern "C" fn pageoriole_check(
     rules: &[u8],
     initial: &[u8],
     target: &[u8],
+    has_default: bool,
+    default: &[u8],
     has_keep: bool,
     keep: &[u8],
     has_script: bool,
@@ -44,11 +46,22 @@ pub extern "C" fn pageoriole_check(
     ensures { λ n. ⌜
         Tells
         (checkedTold (checking (valuesRead
-        (valuesGiven (now (rules .entry)) (now (initial .entry)) (now (target .entry)) «has_keep» (now (keep .entry)) «has_script» (now (script .entry))))))
+        (valuesGiven (now (rules .entry)) (now (initial .entry)) (now (target .entry)) «has_default» (now (default .entry)) «has_keep» (now (keep .entry))
+        «has_script» (now (script .entry))))))
         n (now (answer .entry)) (now (answer .exit))
         ⌝ }
 {
-    let found = check(rules, initial, target, has_keep, keep, has_script, script);
+    let found = check(
+        rules,
+        initial,
+        target,
+        has_default,
+        default,
+        has_keep,
+        keep,
+        has_script,
+        script,
+    );
     tell_checked(found, answer)
 }
 
@@ -58,6 +71,8 @@ pub extern "C" fn pageoriole_write(
     rules: &[u8],
     initial: &[u8],
     target: &[u8],
+    has_default: bool,
+    default: &[u8],
     has_keep: bool,
     keep: &[u8],
     has_script: bool,
@@ -68,7 +83,8 @@ pub extern "C" fn pageoriole_write(
     ensures { λ n. ⌜
         Leaves
         (writeOutcome (writtenValues
-        (valuesGiven (now (rules .entry)) (now (initial .entry)) (now (target .entry)) «has_keep» (now (keep .entry)) «has_script» (now (script .entry)))
+        (valuesGiven (now (rules .entry)) (now (initial .entry)) (now (target .entry)) «has_default» (now (default .entry)) «has_keep» (now (keep .entry))
+        «has_script» (now (script .entry)))
         (now (place .entry))))
         n (now (answer .entry)) (now (answer .exit)) (now (place .exit))
         ⌝ }
@@ -77,6 +93,8 @@ pub extern "C" fn pageoriole_write(
         rules,
         initial,
         target,
+        has_default,
+        default,
         has_keep,
         keep,
         has_script,
@@ -91,6 +109,8 @@ pub extern "C" fn pageoriole_write(
 pub extern "C" fn pageoriole_decide(
     rules: &[u8],
     policy: &[u8],
+    has_default: bool,
+    default: &[u8],
     protocol: u8,
     source: u32,
     source_port: u16,
@@ -100,7 +120,7 @@ pub extern "C" fn pageoriole_decide(
 ) -> u32
     ensures { λ n. ⌜
         Tells
-        (decidedTold (decidedAtZero (decidedValues (now (rules .entry)) (now (policy .entry))
+        (decidedTold (decidedAtZero (decidedValues (now (rules .entry)) (now (policy .entry)) (given «has_default» (now (default .entry)))
         (flowOf protocol source «source_port» destination «destination_port»))))
         n (now (answer .entry)) (now (answer .exit))
         ⌝ }
@@ -112,7 +132,7 @@ pub extern "C" fn pageoriole_decide(
         destination,
         destination_port,
     };
-    let found = decide(rules, policy, flow);
+    let found = decide(rules, policy, has_default, default, flow);
     tell_decided(found, answer)
 }
 
@@ -121,17 +141,20 @@ pub extern "C" fn pageoriole_decide(
 pub extern "C" fn pageoriole_decide_flows(
     rules: &[u8],
     policy: &[u8],
+    has_default: bool,
+    default: &[u8],
     flows: &[u8],
     place: &mut [u8],
     answer: &mut [u64],
 ) -> u32
     ensures { λ n. ⌜
         Leaves
-        (writeOutcome (flowsAtZero (decidingValues (now (rules .entry)) (now (policy .entry))) (now (flows .entry)) (now (place .entry))))
+        (writeOutcome (flowsAtZero (decidingValues (now (rules .entry)) (now (policy .entry)) (given «has_default» (now (default .entry)))) (now (flows .entry))
+        (now (place .entry))))
         n (now (answer .entry)) (now (answer .exit)) (now (place .exit))
         ⌝ }
 {
-    let found = decide_flows(rules, policy, flows, place);
+    let found = decide_flows(rules, policy, has_default, default, flows, place);
     tell_written(found, answer)
 }
 
@@ -140,17 +163,20 @@ pub extern "C" fn pageoriole_decide_flows(
 pub extern "C" fn pageoriole_replay(
     rules: &[u8],
     initial: &[u8],
+    has_default: bool,
+    default: &[u8],
     script: &[u8],
     place: &mut [u8],
     answer: &mut [u64],
 ) -> u32
     ensures { λ n. ⌜
         Leaves
-        (replayOutcome (replayedAtZero (replayedValues (now (rules .entry)) (now (initial .entry)) (now (script .entry))) (now (place .entry))))
+        (replayOutcome (replayedAtZero (replayedValues (now (rules .entry)) (now (initial .entry)) (given «has_default» (now (default .entry))) (now (script .entry)))
+        (now (place .entry))))
         n (now (answer .entry)) (now (answer .exit)) (now (place .exit))
         ⌝ }
 {
-    let found = replay(rules, initial, script, place);
+    let found = replay(rules, initial, has_default, default, script, place);
     tell_ran(found, answer)
 }
 
@@ -160,6 +186,8 @@ pub extern "C" fn pageoriole_plan_one(
     rules: &[u8],
     initial: &[u8],
     target: &[u8],
+    has_default: bool,
+    default: &[u8],
     has_keep: bool,
     keep: &[u8],
     has_script: bool,
@@ -170,7 +198,8 @@ pub extern "C" fn pageoriole_plan_one(
     ensures { λ n. ⌜
         Leaves
         (planOutcome (planned madeOne (readValues
-        (valuesGiven (now (rules .entry)) (now (initial .entry)) (now (target .entry)) «has_keep» (now (keep .entry)) «has_script» (now (script .entry))))
+        (valuesGiven (now (rules .entry)) (now (initial .entry)) (now (target .entry)) «has_default» (now (default .entry)) «has_keep» (now (keep .entry))
+        «has_script» (now (script .entry))))
         (now (place .entry))))
         n (now (answer .entry)) (now (answer .exit)) (now (place .exit))
         ⌝ }
@@ -179,6 +208,8 @@ pub extern "C" fn pageoriole_plan_one(
         rules,
         initial,
         target,
+        has_default,
+        default,
         has_keep,
         keep,
         has_script,
@@ -194,6 +225,8 @@ pub extern "C" fn pageoriole_plan_two(
     rules: &[u8],
     initial: &[u8],
     target: &[u8],
+    has_default: bool,
+    default: &[u8],
     has_keep: bool,
     keep: &[u8],
     has_script: bool,
@@ -204,7 +237,8 @@ pub extern "C" fn pageoriole_plan_two(
     ensures { λ n. ⌜
         Leaves
         (planOutcome (planned madeTwo (readValues
-        (valuesGiven (now (rules .entry)) (now (initial .entry)) (now (target .entry)) «has_keep» (now (keep .entry)) «has_script» (now (script .entry))))
+        (valuesGiven (now (rules .entry)) (now (initial .entry)) (now (target .entry)) «has_default» (now (default .entry)) «has_keep» (now (keep .entry))
+        «has_script» (now (script .entry))))
         (now (place .entry))))
         n (now (answer .entry)) (now (answer .exit)) (now (place .exit))
         ⌝ }
@@ -213,6 +247,8 @@ pub extern "C" fn pageoriole_plan_two(
         rules,
         initial,
         target,
+        has_default,
+        default,
         has_keep,
         keep,
         has_script,
@@ -228,6 +264,8 @@ pub extern "C" fn pageoriole_judge(
     rules: &[u8],
     initial: &[u8],
     target: &[u8],
+    has_default: bool,
+    default: &[u8],
     has_keep: bool,
     keep: &[u8],
     script: &[u8],
@@ -236,10 +274,20 @@ pub extern "C" fn pageoriole_judge(
     ensures { λ n. ⌜
         Tells
         (judgedTold (judgedReading (readValues
-        (valuesGiven (now (rules .entry)) (now (initial .entry)) (now (target .entry)) «has_keep» (now (keep .entry)) true (now (script .entry))))))
+        (valuesGiven (now (rules .entry)) (now (initial .entry)) (now (target .entry)) «has_default» (now (default .entry)) «has_keep» (now (keep .entry))
+        true (now (script .entry))))))
         n (now (answer .entry)) (now (answer .exit))
         ⌝ }
 {
-    let found = judge(rules, initial, target, has_keep, keep, script);
+    let found = judge(
+        rules,
+        initial,
+        target,
+        has_default,
+        default,
+        has_keep,
+        keep,
+        script,
+    );
     tell_judged(found, answer)
 }

@@ -13,7 +13,7 @@ use Rattle.policy.specs.Command.{coded, ofType}
 use Rattle.policy.specs.AppendDelete.{planOne}
 use Rattle.policy.specs.InsertDeleteMove.{planTwo}
 use Rattle.policy.specs.Properties.{Makes, Leads, ScriptType}
-use Rattle.policy.specs.Claims.{Policy, Accepted}
+use Rattle.policy.specs.Claims.{Admitted, Accepted}
 use Rattle.policy.specs.declared.Command.{Command}
 use Rattle.policy.specs.declared.Command.the-variants.{App, DelRule, Ins, DelPlace, Mov}
 use Rattle.policy.proofs.Tests.{byTest}
@@ -26,7 +26,7 @@ use Rattle.policy.proofs.InsertDeleteMove.{plan-two-count, plan-two-reaches}
 use Rattle.policy.proofs.Plans.{plan-one-verdict, plan-one-keeps-the-default, plan-two-verdict, plan-two-changes-once, plans-fit}
 use Rattle.deployment.specs.Bytes.{number, part}
 use Rattle.deployment.specs.Values.{scriptBytes}
-use Rattle.deployment.specs.Contents.{Contents}
+use Rattle.deployment.specs.Contents.{Contents, initialPolicy, targetPolicy}
 use Rattle.deployment.specs.File.{script-tag}
 use Rattle.deployment.specs.FieldValues.{filled}
 use Rattle.deployment.specs.Properties.{Scripted, Valid}
@@ -76,7 +76,7 @@ makes-two-bytes size l (Mov i j) m small short (u, x, v, p, q, from, is, to, sam
   omega (arith, ap length is, length-append u (x ∷ v), ap length same, length-append u v, length-append p q),
 )
 
-leads-two-bytes : (size : ℕ) (l n : List ℕ) (script : List Command) → size ≤ 1024 → Policy size l → Leads size l script n
+leads-two-bytes : (size : ℕ) (l n : List ℕ) (script : List Command) → size ≤ 1024 → Admitted size l → Leads size l script n
     → (c : Command) → List·Memᴰ c script → TwoBytes c
 leads-two-bytes size l n [] small policy leads c t = absurd (List·Memᴰ·not-nil t)
 leads-two-bytes size l n (d ∷ script) small policy (m, made, rest) c t =
@@ -172,7 +172,7 @@ one-holds c place plan valid e =
       count = omega (arith, counted, holds .keeps, plan-one-count (c .initial) (c .target) (first .distinct));
       fewest = λ other typed leads. omega (arith, counted, plan-one-fewest size (c .initial) (c .target) other (first .distinct) typed leads);
       judged = plan-one-verdict size (c .initial) (c .target) first last;
-      denied = plan-one-keeps-the-default size (c .initial) (c .target) first last;
+      spared = plan-one-keeps-the-default size (initialPolicy c) (targetPolicy c) refl first last;
     }
 
 pub two-holds : TwoHolds
@@ -186,7 +186,7 @@ two-holds c place plan valid e =
       holds = holds;
       count = omega (arith, holds .written .counted, holds .keeps, plan-two-count size (c .initial) (c .target) (c .keep) lists);
       judged = plan-two-verdict size (c .initial) (c .target) (c .keep) lists;
-      once = λ m. plan-two-changes-once m size (c .initial) (c .target) (c .keep) lists;
+      once = λ m. plan-two-changes-once m size (initialPolicy c) (targetPolicy c) (c .keep) refl lists;
     }
 
 -- What the numbers of an answer say, and how much room a plan needs.

@@ -11,7 +11,7 @@ use lib.ListN.{length, drop}
 use Rattle.policy.specs.Lists.{common}
 use Rattle.policy.specs.Policy.{Matching}
 use Rattle.policy.specs.Command.{ofType}
-use Rattle.policy.specs.Replay.{lists}
+use Rattle.policy.specs.Replay.{policies}
 use Rattle.policy.specs.AppendDelete.{keptRun, planOne}
 use Rattle.policy.specs.InsertDeleteMove.{keptTwo, planTwo, movesInPlace}
 use Rattle.policy.specs.Judge.{verdict, verdictNumbers}
@@ -20,7 +20,7 @@ use Rattle.policy.specs.Claims.{KeepsTheDefault, ChangesOnce, changePoint}
 use Rattle.policy.specs.declared.Command.{Command}
 use Rattle.deployment.specs.Bytes.{number, part}
 use Rattle.deployment.specs.Values.{scriptOf}
-use Rattle.deployment.specs.Contents.{Contents}
+use Rattle.deployment.specs.Contents.{Contents, initialPolicy, targetPolicy}
 use Rattle.deployment.specs.File.{script-tag, head-bytes}
 use Rattle.deployment.specs.Properties.{Valid}
 use Rattle.deployment.specs.Checked.{refusalNumbers}
@@ -47,7 +47,8 @@ pub record HoldsPlan (type : ℕ) (commands : List Command) (kept : ℕ) (c : Co
   pub keeps : plan .kept ≡ kept
   pub reaches : Leads (length (c .catalogue)) (c .initial) commands (c .target)
 
--- "Script for append and delete": no script of its kind is shorter, and the judge gives it 31 or 32
+-- "Script for append and delete": no script of its kind is shorter, the judge gives it 31 or 32, and no flow to which both policies give their
+-- default is ever given the other action
 pub record HoldsOne (c : Contents) (plan : Plan) (before after : List ℕ) : Type 0 where
   pub holds : HoldsPlan 1 (planOne (c .initial) (c .target)) (length (keptRun (c .initial) (c .target))) c plan before after
   pub count : plan .commands + 2 * plan .kept ≡ length (c .initial) + length (c .target)
@@ -55,7 +56,7 @@ pub record HoldsOne (c : Contents) (plan : Plan) (before after : List ℕ) : Typ
       → plan .commands ≤ length other
   pub judged : (verdictNumbers (verdict (length (c .catalogue)) (c .initial) (c .target) (planOne (c .initial) (c .target))) ≡ 31 ∷ [])
       ⊎ (verdictNumbers (verdict (length (c .catalogue)) (c .initial) (c .target) (planOne (c .initial) (c .target))) ≡ 32 ∷ [])
-  pub denied : KeepsTheDefault (length (c .catalogue)) (c .initial) (c .target) (planOne (c .initial) (c .target))
+  pub spared : KeepsTheDefault (length (c .catalogue)) (initialPolicy c) (targetPolicy c) (planOne (c .initial) (c .target))
 
 abbrev pub OneHolds : Type 0
 OneHolds =
@@ -69,8 +70,8 @@ pub record HoldsTwo (c : Contents) (plan : Plan) (before after : List ℕ) : Typ
       ≡ length (c .initial) + length (c .target)
   pub judged : verdictNumbers (verdict (length (c .catalogue)) (c .initial) (c .target) (planTwo (c .initial) (c .target) (c .keep))) ≡ 32 ∷ []
   pub once : (m : Matching)
-      → ChangesOnce m (length (c .catalogue)) (c .initial) (c .target) (planTwo (c .initial) (c .target) (c .keep))
-      (changePoint m (c .target) (lists (length (c .catalogue)) (c .initial) (planTwo (c .initial) (c .target) (c .keep))))
+      → ChangesOnce m (length (c .catalogue)) (initialPolicy c) (targetPolicy c) (planTwo (c .initial) (c .target) (c .keep))
+      (changePoint m (targetPolicy c) (policies (length (c .catalogue)) (initialPolicy c) (planTwo (c .initial) (c .target) (c .keep))))
 
 abbrev pub TwoHolds : Type 0
 TwoHolds =

@@ -18,7 +18,7 @@ use Rattle.policy.specs.Lists.{pick, mem, common, missing}
 use Rattle.policy.specs.Command.{coded, codesOf, allows, ofType}
 use Rattle.policy.specs.AppendDelete.{keptRun, planOne}
 use Rattle.policy.specs.Properties.{In, Distinct, SupportedBy}
-use Rattle.policy.specs.Claims.{Policy, KeptRunIsLongest, PlanOneReaches, PlanOneCount, PlanOneSparesKept}
+use Rattle.policy.specs.Claims.{Admitted, KeptRunIsLongest, PlanOneReaches, PlanOneCount, PlanOneSparesKept}
 use Rattle.policy.specs.declared.Command.{Command}
 use Rattle.policy.specs.declared.Command.the-variants.{App, DelRule}
 use Rattle.policy.proofs.Tests.{byTest, not-true}
@@ -85,7 +85,7 @@ front-supported policy running u v e d s r h = record {
 }
 
 -- The lists on the way, whichever rules are kept: they are a front part of the target and occur in order in the initial policy.
-module _ (size : ℕ) (initial target kept rest : List ℕ) (first : Policy size initial) (last : Policy size target)
+module _ (size : ℕ) (initial target kept rest : List ℕ) (first : Admitted size initial) (last : Admitted size target)
     (front : target ≡ kept ++ rest) (occurs : Sublistᴰ kept initial) where
   abbrev Way : List ℕ → List Command → List ℕ → Type 0
   Way l script n = Steps (Orderly initial target) (λ l m. Unit {0}) size l script n
@@ -159,7 +159,7 @@ module _ (size : ℕ) (initial target kept rest : List ℕ) (first : Policy size
       (common-occurring occurs (first .distinct)) (deleting [] initial refl))
       (appending kept rest front)
 
-pub plan-one-steps : (size : ℕ) (initial target : List ℕ) → Policy size initial → Policy size target
+pub plan-one-steps : (size : ℕ) (initial target : List ℕ) → Admitted size initial → Admitted size target
     → Steps (Orderly initial target) (λ l m. Unit {0}) size initial (planOne initial target) target
 unfolding planOne
 plan-one-steps size initial target first last =

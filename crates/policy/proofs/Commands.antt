@@ -15,7 +15,7 @@ use Rattle.policy.specs.Lists.{mem, before, after}
 use Rattle.policy.specs.Command.{ruleAt, lifted, placed, moved, passed, failed, needs, within, step, faultNumber}
 use Rattle.policy.specs.Properties.{In, Distinct, Outside, Off, OffRange, AlreadyThere, NotThere, Makes}
 use Rattle.policy.specs.Properties.{Fails, outside, off-range, already-there, not-there}
-use Rattle.policy.specs.Claims.{Policy}
+use Rattle.policy.specs.Claims.{Admitted}
 use Rattle.policy.specs.declared.Command.{Command}
 use Rattle.policy.specs.declared.Command.the-variants.{App, DelRule, Ins, DelPlace, Mov}
 use Rattle.policy.specs.declared.Fault.{Fault}
@@ -240,7 +240,7 @@ makes-inside size l (Mov i j) m (u, y, v, p, q, at, is, to, again, made) all x h
     (λ t. all x (rw is (in-around y x u v (rw again t))))
     (around-cases y x p q (rw made at h))
 
-pub makes-policy : (size : ℕ) (l : List ℕ) (c : Command) (m : List ℕ) → Makes size l c m → Policy size l → Policy size m
+pub makes-policy : (size : ℕ) (l : List ℕ) (c : Command) (m : List ℕ) → Makes size l c m → Admitted size l → Admitted size m
 makes-policy size l c m made policy = record {
   inside = makes-inside size l c m made (policy .inside);
   distinct = makes-distinct size l c m made (policy .distinct);

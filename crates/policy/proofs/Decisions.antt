@@ -1,12 +1,13 @@
--- What a list on the way decides: as one of the two policies does. The first rule of an ordered list that hits is the first in
+-- What a policy on the way decides: as one of the two policies does. The first rule of an ordered list that hits is the first in
 -- the policy that supports it: what stands before it there stands before it in the list. And a full list without a hit contains a
--- policy without one. Assumes nothing.
+-- policy's list without one, and all are under one default. Assumes nothing.
 use Prim.Native.Nat.{ℕ, suc}
+use native.Mathlib.Omega.{arith}
 use mathlib.Core.Path.{_≡_, refl, sym, _∙_, ap}
 use mathlib.Core.Bool.{true, false}
 use mathlib.Core.Logic.{_⊎_, inl, inr, ⊎-elim, ⊎-map, _≢_}
 use mathlib.Core.List.{List, [], _∷_, List·Memᴰ·head, List·Memᴰ·tail, List·Memᴰ·cases-cons, List·Memᴰ·not-nil}
-use Rattle.policy.specs.Policy.{Matching, decideFrom, decide, decided, sameAction}
+use Rattle.policy.specs.Policy.{Matching, Policy, under, decideFrom, decide, decided, sameAction}
 use Rattle.policy.specs.Properties.{In, Distinct, Within, Precedes, SupportedBy, Ordered, Full}
 use Rattle.policy.specs.Claims.{NoMatch, OrderedAndFullDecidesAsOne, OrderedKeepsTheDefault}
 use Rattle.policy.specs.declared.Action.{Action}
@@ -29,6 +30,9 @@ eq-same-action Deny Permit e = cc
 eq-same-action Permit Deny e = cc
 eq-same-action Permit Permit e = refl
 
+pub permit-not-deny : Permit ≢ Deny
+permit-not-deny e = let clash : _≡_ {A = ℕ} 0 1 = cc in omega arith
+
 -- rule r is in the list and hits, and no rule before it does
 pub record FirstHit (m : Matching) (l : List ℕ) (r : ℕ) : Type 0 where
   pub there : In r l
@@ -40,20 +44,6 @@ abbrev pub Agrees : Matching → List ℕ → List ℕ → Type 0
 Agrees m policy l = ((r : ℕ) × FirstHit m policy r × FirstHit m l r) ⊎ (NoMatch m policy × NoMatch m l)
 
 module _ (m : Matching) where
-  -- Lists by their head. The place from which a list is counted has no part in the action.
-  place-free : (p q : ℕ) (l : List ℕ) → (decideFrom m p l) .action ≡ (decideFrom m q l) .action
-  unfolding decideFrom
-  place-free p q [] = refl
-  place-free p q (x ∷ l) = byTest (m .hit x) (λ t. rw t) (λ f. rw f (place-free (suc p) (suc q) l))
-
-  head-decides : (x : ℕ) (l : List ℕ) → m .hit x ≡ true → decided m (x ∷ l) ≡ m .action x
-  unfolding decided decide decideFrom
-  head-decides x l t = rw (t, decided)
-
-  head-passes : (x : ℕ) (l : List ℕ) → m .hit x ≡ false → decided m (x ∷ l) ≡ decided m l
-  unfolding decided decide decideFrom
-  head-passes x l f = rw (f, decided) (place-free 2 1 l)
-
   first-hit-tail : (x r : ℕ) (l : List ℕ) → m .hit x ≡ false → FirstHit m (x ∷ l) r → FirstHit m l r
   first-hit-tail x r l f h =
       record {
@@ -61,20 +51,6 @@ module _ (m : Matching) where
         hits = h .hits;
         first = λ y p. h .first y (inr p);
       }
-
-  -- The first hit of a list.
-  pub first-hit-decides : (l : List ℕ) (r : ℕ) → FirstHit m l r → decided m l ≡ m .action r
-  first-hit-decides [] r h = absurd (List·Memᴰ·not-nil (h .there))
-  first-hit-decides (x ∷ l) r h =
-      byTest (m .hit x)
-      (λ t. head-decides x l t
-      ∙ ⊎-elim (λ e. ap (m .action) (sym e)) (λ k. never t (h .first x (inl (refl, k)))) (List·Memᴰ·cases-cons (h .there)))
-      (λ f. head-passes x l f ∙ first-hit-decides l r (first-hit-tail x r l f h))
-
-  pub no-hit-decides : (l : List ℕ) → NoMatch m l → decided m l ≡ m .default
-  unfolding decided decide decideFrom
-  no-hit-decides [] h = refl
-  no-hit-decides (x ∷ l) h = head-passes x l (h x (List·Memᴰ·head refl)) ∙ no-hit-decides l (λ y k. h y (List·Memᴰ·tail k))
 
   first-hit-or-none : (l : List ℕ) → Distinct l → ((r : ℕ) × FirstHit m l r) ⊎ NoMatch m l
   first-hit-or-none [] d = inr (λ x h. absurd (List·Memᴰ·not-nil h))
@@ -105,12 +81,6 @@ module _ (m : Matching) where
   first-hit-precedes a b l h t n k =
       not-second (λ p. never t (h .first b p)) (precedes-total a b l (h .there) k n)
 
-  -- A list that agrees with a policy.
-  pub agrees-decides : (policy l : List ℕ) → Agrees m policy l → decided m l ≡ decided m policy
-  agrees-decides policy l =
-      ⊎-elim (λ h. first-hit-decides l (h .0) (h .2) ∙ sym (first-hit-decides policy (h .0) (h .1)))
-      (λ n. no-hit-decides l (n .1) ∙ sym (no-hit-decides policy (n .0)))
-
   supported-agrees : (policy l : List ℕ) (r : ℕ) → FirstHit m l r → SupportedBy policy l r → Agrees m policy l
   supported-agrees policy l r h s =
       inl (r, record { there = s .named; hits = h .hits; first = λ x p. h .first x (s .led x p) }, h)
@@ -133,13 +103,55 @@ module _ (m : Matching) where
       (λ n. ⊎-map (within-agrees initial l n) (within-agrees target l n) full)
       (ordered-agrees initial target l d o)
 
+-- Lists under one default.
+module _ (m : Matching) (default : Action) where
+  -- Lists by their head. The place from which a list is counted has no part in the action.
+  place-free : (p q : ℕ) (l : List ℕ) → (decideFrom m default p l) .action ≡ (decideFrom m default q l) .action
+  unfolding decideFrom
+  place-free p q [] = refl
+  place-free p q (x ∷ l) = byTest (m .hit x) (λ t. rw t) (λ f. rw f (place-free (suc p) (suc q) l))
+
+  head-decides : (x : ℕ) (l : List ℕ) → m .hit x ≡ true → decided m (under default (x ∷ l)) ≡ m .action x
+  unfolding decided decide decideFrom
+  head-decides x l t = rw (t, decided)
+
+  head-passes : (x : ℕ) (l : List ℕ) → m .hit x ≡ false → decided m (under default (x ∷ l)) ≡ decided m (under default l)
+  unfolding decided decide decideFrom
+  head-passes x l f = rw (f, decided) (place-free 2 1 l)
+
+  -- The first hit of a list.
+  pub first-hit-decides : (l : List ℕ) (r : ℕ) → FirstHit m l r → decided m (under default l) ≡ m .action r
+  first-hit-decides [] r h = absurd (List·Memᴰ·not-nil (h .there))
+  first-hit-decides (x ∷ l) r h =
+      byTest (m .hit x)
+      (λ t. head-decides x l t
+      ∙ ⊎-elim (λ e. ap (m .action) (sym e)) (λ k. never t (h .first x (inl (refl, k)))) (List·Memᴰ·cases-cons (h .there)))
+      (λ f. head-passes x l f ∙ first-hit-decides l r (first-hit-tail m x r l f h))
+
+  pub no-hit-decides : (l : List ℕ) → NoMatch m l → decided m (under default l) ≡ default
+  unfolding decided decide decideFrom
+  no-hit-decides [] h = refl
+  no-hit-decides (x ∷ l) h = head-passes x l (h x (List·Memᴰ·head refl)) ∙ no-hit-decides l (λ y k. h y (List·Memᴰ·tail k))
+
+module _ (m : Matching) where
+  -- A policy whose list agrees with another's, under the same default.
+  pub agrees-decides : (policy p : Policy) → p .default ≡ policy .default → Agrees m (policy .list) (p .list) → decided m p ≡ decided m policy
+  agrees-decides policy p same =
+      ⊎-elim
+      (λ h. first-hit-decides m (p .default) (p .list) (h .0) (h .2)
+      ∙ sym (first-hit-decides m (policy .default) (policy .list) (h .0) (h .1)))
+      (λ n. no-hit-decides m (p .default) (p .list) (n .1)
+      ∙ same
+      ∙ sym (no-hit-decides m (policy .default) (policy .list) (n .0)))
+
 pub ordered-and-full-decides-as-one : OrderedAndFullDecidesAsOne
-ordered-and-full-decides-as-one m initial target l d o full =
-    ⊎-map (agrees-decides m initial l) (agrees-decides m target l) (agrees-with-one m initial target l d o full)
+ordered-and-full-decides-as-one m initial target p (one, own) d o full =
+    ⊎-map (agrees-decides m initial p own) (agrees-decides m target p (own ∙ one))
+    (agrees-with-one m (initial .list) (target .list) (p .list) d o full)
 
 pub ordered-keeps-the-default : OrderedKeepsTheDefault
-ordered-keeps-the-default m initial target l d o i t =
+ordered-keeps-the-default m initial target p (one, own) d o i t =
     ⊎-elim
-    (⊎-elim (λ f. agrees-decides m initial l f ∙ i) (λ f. agrees-decides m target l f ∙ t))
-    (no-hit-decides m l)
-    (ordered-agrees m initial target l d o)
+    (⊎-elim (λ f. agrees-decides m initial p own f ∙ i) (λ f. agrees-decides m target p (own ∙ one) f ∙ t))
+    (no-hit-decides m (p .default) (p .list))
+    (ordered-agrees m (initial .list) (target .list) (p .list) d o)

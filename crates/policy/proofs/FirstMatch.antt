@@ -1,5 +1,5 @@
 -- A decision: the rule that decides is the first that matches. The idea: a decision cuts the list around that rule, or finds no
--- such rule; and an answer that document 01 allows is determined by the list. Assumes nothing.
+-- such rule; and an answer that document 01 allows is determined by the policy. Assumes nothing.
 use Prim.Native.Nat.{ℕ, suc, _+_, _<_}
 use native.Mathlib.Nat.{not-suc-le-zero, le-of-suc-le-suc}
 use native.Mathlib.Omega.{arith}
@@ -10,7 +10,7 @@ use mathlib.Core.List.{List, [], _∷_, _++_, List·Memᴰ·head, List·Memᴰ·
 use borrow.Author.Tests.{ltb-true, ltb-false}
 use lib.Dec.{ltb}
 use lib.ListN.{length}
-use Rattle.policy.specs.Policy.{Matching, decideFrom, decide}
+use Rattle.policy.specs.Policy.{Matching, Policy, decideFrom, decide}
 use Rattle.policy.specs.Properties.{In, StandsAt}
 use Rattle.policy.specs.Claims.{FirstMatch, NoMatch, Answers, DecisionIsFirstMatch, PlaceZeroIsDefault}
 use Rattle.policy.specs.declared.Action.{Action}
@@ -34,7 +34,8 @@ same-decision d e a p =
     let given : Action → ℕ → Decision = λ action place. record { action = action; place = place } in
     ap (λ (x : Action). given x (d .place)) a ∙ ap (λ (n : ℕ). given (e .action) n) p
 
-module _ (m : Matching) where
+-- Lists under one default.
+module _ (m : Matching) (default : Action) where
   -- the list cut around the first rule that matches, and what is decided by it
   record Cut (n : ℕ) (l : List ℕ) : Type 0 where
     front : List ℕ
@@ -43,10 +44,10 @@ module _ (m : Matching) where
     is : l ≡ front ++ (rule ∷ back)
     passed : NoMatch m front
     matches : m .hit rule ≡ true
-    decides : decideFrom m (suc n) l ≡ record { action = m .action rule; place = suc (length front + n) }
+    decides : decideFrom m default (suc n) l ≡ record { action = m .action rule; place = suc (length front + n) }
 
   cut-or-none : (n : ℕ) (l : List ℕ)
-      → Cut n l ⊎ (NoMatch m l × (decideFrom m (suc n) l ≡ record { action = m .default; place = 0 }))
+      → Cut n l ⊎ (NoMatch m l × (decideFrom m default (suc n) l ≡ record { action = default; place = 0 }))
   unfolding decideFrom
   cut-or-none n [] = inr ((λ r h. absurd (List·Memᴰ·not-nil h)), refl)
   cut-or-none n (x ∷ l) =
@@ -75,10 +76,11 @@ module _ (m : Matching) where
       (λ none. inr (pass l (none .0), rw f (none .1)))
       (cut-or-none (suc n) l))
 
+module _ (m : Matching) where
   -- the decision is an answer, and any two answers are the same
-  decide-answers : (l : List ℕ) → Answers m l (decide m l)
+  decide-answers : (p : Policy) → Answers m p (decide m p)
   unfolding decide
-  decide-answers l =
+  decide-answers p =
       ⊎-elim
       (λ c. rw (c .decides) (inl (
         c .rule,
@@ -92,13 +94,13 @@ module _ (m : Matching) where
         refl,
       )))
       (λ none. rw (none .1) (inr (none .0, refl, refl)))
-      (cut-or-none 0 l)
+      (cut-or-none m (p .default) 0 (p .list))
 
   match-in : (l : List ℕ) (place rule : ℕ) → FirstMatch m l place rule → In rule l
   match-in l place rule f = rw (f .stands .is) (in-middle rule (f .stands .left) (f .stands .right))
 
-  answers-same : (l : List ℕ) (d e : Decision) → Answers m l d → Answers m l e → d ≡ e
-  answers-same l d e (inl (r, f, a)) (inl (x, g, b)) =
+  answers-same : (p : Policy) (d e : Decision) → Answers m p d → Answers m p e → d ≡ e
+  answers-same p d e (inl (r, f, a)) (inl (x, g, b)) =
       byTest (ltb (d .place) (e .place))
       (λ t. never (f .matches) (g .first (d .place) r (ltb-true (d .place) (e .place) t) (f .stands)))
       (λ n. byTest (ltb (e .place) (d .place))
@@ -106,24 +108,24 @@ module _ (m : Matching) where
       (λ k. let places : d .place ≡ e .place =
       omega (arith, ltb-false (d .place) (e .place) n, ltb-false (e .place) (d .place) k) in
       same-decision d e (a ∙ ap (m .action) (stands-one (f .stands) (rw (← places) at (g .stands))) ∙ sym b) places))
-  answers-same l d e (inl (r, f, a)) (inr (none, p, b)) = never (f .matches) (none r (match-in l (d .place) r f))
-  answers-same l d e (inr (none, p, a)) (inl (r, f, b)) = never (f .matches) (none r (match-in l (e .place) r f))
-  answers-same l d e (inr (none, p, a)) (inr (other, q, b)) = same-decision d e (a ∙ sym b) (p ∙ sym q)
+  answers-same p d e (inl (r, f, a)) (inr (none, z, b)) = never (f .matches) (none r (match-in (p .list) (d .place) r f))
+  answers-same p d e (inr (none, z, a)) (inl (r, f, b)) = never (f .matches) (none r (match-in (p .list) (e .place) r f))
+  answers-same p d e (inr (none, y, a)) (inr (other, z, b)) = same-decision d e (a ∙ sym b) (y ∙ sym z)
 
 pub decision-is-first-match : DecisionIsFirstMatch
-decision-is-first-match m l d = (
-  λ e. rw e at (decide-answers m l),
-  answers-same m l (decide m l) d (decide-answers m l),
+decision-is-first-match m p d = (
+  λ e. rw e at (decide-answers m p),
+  answers-same m p (decide m p) d (decide-answers m p),
 )
 
 pub place-zero-is-default : PlaceZeroIsDefault
-place-zero-is-default m l = (
+place-zero-is-default m p = (
   λ e. ⊎-elim
       (λ f. absurd (omega (arith, e, f .1 .stands .counted)))
       (λ none. none .0)
-      (decide-answers m l),
+      (decide-answers m p),
   λ none. ⊎-elim
-      (λ f. never (f .1 .matches) (none (f .0) (match-in m l ((decide m l) .place) (f .0) (f .1))))
+      (λ f. never (f .1 .matches) (none (f .0) (match-in m (p .list) ((decide m p) .place) (f .0) (f .1))))
       (λ other. other .1)
-      (decide-answers m l),
+      (decide-answers m p),
 )

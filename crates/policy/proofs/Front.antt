@@ -16,7 +16,7 @@ use lib.Seq.{append-snoc}
 use Rattle.policy.specs.Lists.{after, without}
 use Rattle.policy.specs.InsertDeleteMove.{Standing, settled, waiting, ruleOf, inserted}
 use Rattle.policy.specs.Properties.{In, Distinct, Within, Precedes, SupportedBy, Ordered}
-use Rattle.policy.specs.Claims.{Policy}
+use Rattle.policy.specs.Claims.{Admitted}
 use Rattle.policy.proofs.Tests.{byTest, not-first, not-second}
 use Rattle.policy.proofs.Lists.{in-middle}
 use Rattle.policy.proofs.Order.{distinct-apart, not-later, precedes-in-left}
@@ -30,8 +30,8 @@ use Rattle.policy.proofs.Stages.{Unkept}
 
 -- two policies that the reader accepts, and rules to keep that occur in order in both
 pub record Given (size : ℕ) (initial target kept : List ℕ) : Type 0 where
-  pub old : Policy size initial
-  pub new : Policy size target
+  pub old : Admitted size initial
+  pub new : Admitted size target
   pub kept-initial : Sublistᴰ kept initial
   pub kept-target : Sublistᴰ kept target
 

@@ -61,7 +61,7 @@ module _ {A : Type 0} (test : A → Bool) (d : A) where
   at-all l h = not-second (λ f. never (h (f .0) (f .1 .inside)) (f .1 .fails)) (all-or-first l)
 
 -- The rule at a place, by its number from 0.
-place-stands : (l : List ℕ) (k : ℕ) → k < length l → StandsAt l (suc k) (getD l k 0)
+pub place-stands : (l : List ℕ) (k : ℕ) → k < length l → StandsAt l (suc k) (getD l k 0)
 place-stands l k h = record {
   left = take k l;
   right = drop (suc k) l;

@@ -80,3 +80,12 @@ verdict-from (Elsewhere commands) = omega arith
 verdict-from (Unordered at place) = omega arith
 verdict-from NotFull = omega arith
 verdict-from Safe = omega arith
+
+-- and below 50
+pub verdict-below : (v : Verdict) → getD (verdictNumbers v) 0 0 < 50
+unfolding verdictNumbers
+verdict-below (Broken fault at) = omega (arith, fault-below fault)
+verdict-below (Elsewhere commands) = omega arith
+verdict-below (Unordered at place) = omega arith
+verdict-below NotFull = omega arith
+verdict-below Safe = omega arith

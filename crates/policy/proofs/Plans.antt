@@ -2,26 +2,32 @@
 -- together. Where nothing is to be done, nothing is sent. Assumes nothing.
 use Prim.Native.Nat.{ℕ}
 use native.Mathlib.Omega.{arith}
-use mathlib.Core.Path.{_≡_, refl, _∙_, ap}
+use mathlib.Core.Path.{_≡_, refl, sym, _∙_, ap}
+use mathlib.Core.Logic.{_≢_}
 use mathlib.Core.List.{List, [], _∷_, _++_, map, reverse, List·Memᴰ, List·Memᴰ·head, List·Memᴰ·tail, Memᴰ·of-map}
 use mathlib.Core.Option.{Option}
 use borrow.Author.Tests.{eq-eqb}
 use lib.ListN.{length}
 use lib.Seq.{append-snoc}
 use Rattle.policy.specs.Lists.{mem, before, after, without}
+use Rattle.policy.specs.Policy.{Matching, Policy, under, decided}
+use Rattle.policy.specs.Replay.{policies}
 use Rattle.policy.specs.AppendDelete.{planOne}
 use Rattle.policy.specs.InsertDeleteMove.{keptTwo, Standing, settled, waiting, Halves, Taken, reached, moveUp, raised}
 use Rattle.policy.specs.InsertDeleteMove.{takeOne, takeAll, firstStage, takeWaiting, secondStage, planTwo}
 use Rattle.policy.specs.Judge.{verdict, verdictNumbers}
-use Rattle.policy.specs.Properties.{In, Distinct, Within, After}
-use Rattle.policy.specs.Claims.{Policy, SafeDecidesAsOne, NotFullKeepsTheDefault, PlanOneVerdict, PlanOneKeepsTheDefault}
-use Rattle.policy.specs.Claims.{PlanTwoVerdict, PlanTwoChangesOnce, NothingToDo, PlansFit}
+use Rattle.policy.specs.Properties.{In, Distinct, Within, After, Runs, OneDefault}
+use Rattle.policy.specs.Claims.{Admitted, AllOrdered, SafeDecidesAsOne, Never, KeepsTheDefault, NotFullKeepsTheDefault}
+use Rattle.policy.specs.Claims.{PlanOneVerdict, PlanOneKeepsTheDefault, PlanTwoVerdict, changePoint, ChangesOnce}
+use Rattle.policy.specs.Claims.{PlanTwoChangesOnce, NothingToDo, PlansFit}
+use Rattle.policy.specs.declared.Action.{Action}
+use Rattle.policy.specs.declared.Action.the-variants.{Deny, Permit}
 use Rattle.policy.specs.declared.Command.{Command}
 use Rattle.policy.proofs.Tests.{byTest}
 use Rattle.policy.proofs.Lists.{in-mem, length-nil, reverse-in}
 use Rattle.policy.proofs.Way.{Forward, Orderly, Sound, initial-sound, Steps, steps-leads}
 use Rattle.policy.proofs.Replay.{steps-after, after-distinct}
-use Rattle.policy.proofs.Decisions.{ordered-and-full-decides-as-one, ordered-keeps-the-default}
+use Rattle.policy.proofs.Decisions.{permit-not-deny, ordered-and-full-decides-as-one, ordered-keeps-the-default}
 use Rattle.policy.proofs.Judge.{verdict-not-full, verdict-safe, all-ordered-passes}
 use Rattle.policy.proofs.Once.{steps-change-once}
 use Rattle.policy.proofs.AppendDelete.{kept-run-self, plan-one-count, plan-one-steps, plan-one-reaches}
@@ -29,18 +35,43 @@ use Rattle.policy.proofs.Front.{settled-waiting}
 use Rattle.policy.proofs.InsertDeleteMove.{plan-two-steps, plan-two-count}
 
 pub safe-decides-as-one : SafeDecidesAsOne
-safe-decides-as-one size initial target script di dt safe m k l after =
-    let row = verdict-safe size initial target script di dt .0 safe in
-    ordered-and-full-decides-as-one m initial target l (after-distinct size initial l script k after di)
-    (row .1 k l after) (row .2 k l after)
+safe-decides-as-one size initial target script one di dt safe m k p runs =
+    let row = verdict-safe size (initial .list) (target .list) script di dt .0 safe in
+    ordered-and-full-decides-as-one m initial target p (one, runs .default)
+    (after-distinct size (initial .list) (p .list) script k (runs .edited) di)
+    (row .1 k (p .list) (runs .edited)) (row .2 k (p .list) (runs .edited))
+
+-- Where all lists are ordered, every policy on the way gives the default to each flow to which both policies give it; so none gives it
+-- the other action.
+module _ (size : ℕ) (initial target : Policy) (script : List Command) (one : OneDefault initial target) (di : Distinct (initial .list))
+    (ordered : AllOrdered size (initial .list) (target .list) script) where
+  way-keeps-the-default : (m : Matching) → decided m initial ≡ initial .default → decided m target ≡ initial .default
+      → (k : ℕ) (p : Policy) → Runs size initial script k p → decided m p ≡ initial .default
+  way-keeps-the-default m i t k p runs =
+      let own : p .default ≡ initial .default = runs .default in
+      ordered-keeps-the-default m initial target p (one, own)
+      (after-distinct size (initial .list) (p .list) script k (runs .edited) di)
+      (ordered k (p .list) (runs .edited)) (i ∙ sym own) (t ∙ sym own)
+      ∙ own
+
+  never-the-other : (both ever : Action) → both ≢ ever → initial .default ≡ both → Never both ever size initial target script
+  never-the-other both ever apart e m i t k p runs f =
+      apart (sym e ∙ sym (way-keeps-the-default m (i ∙ sym e) (t ∙ sym e) k p runs) ∙ f)
+
+  keeps-the-default : KeepsTheDefault size initial target script
+  keeps-the-default =
+      record {
+        deny = never-the-other Deny Permit (λ e. permit-not-deny (sym e));
+        permit = never-the-other Permit Deny permit-not-deny;
+      }
 
 pub not-full-keeps-the-default : NotFullKeepsTheDefault
-not-full-keeps-the-default size initial target script di dt not-full m ei et k l after =
-    let row = verdict-not-full size initial target script di dt .0 not-full in
-    ordered-keeps-the-default m initial target l (after-distinct size initial l script k after di) (row .1 k l after) ei et
+not-full-keeps-the-default size initial target script one di dt not-full =
+    keeps-the-default size initial target script one di
+    (verdict-not-full size (initial .list) (target .list) script di dt .0 not-full .1)
 
 -- The lists of the script for append and delete are ordered.
-plan-one-ordered : (size : ℕ) (initial target : List ℕ) → Policy size initial → Policy size target
+plan-one-ordered : (size : ℕ) (initial target : List ℕ) → Admitted size initial → Admitted size target
     → (k : ℕ) (l : List ℕ) → After size initial (planOne initial target) k l → Orderly initial target l
 plan-one-ordered size initial target first last =
     steps-after (Orderly initial target) (λ l m. Unit {0}) size initial target (planOne initial target)
@@ -53,9 +84,9 @@ plan-one-verdict size initial target first last =
     (λ k l after. (plan-one-ordered size initial target first last k l after) .ordered)
 
 pub plan-one-keeps-the-default : PlanOneKeepsTheDefault
-plan-one-keeps-the-default size initial target first last m ei et k l after =
-    let at = plan-one-ordered size initial target first last k l after in
-    ordered-keeps-the-default m initial target l (at .distinct) (at .ordered) ei et
+plan-one-keeps-the-default size initial target one first last =
+    keeps-the-default size initial target (planOne (initial .list) (target .list)) one (first .distinct)
+    (λ k l after. (plan-one-ordered size (initial .list) (target .list) first last k l after) .ordered)
 
 -- The lists of the script for insert, delete and move are ordered and full.
 sound-safe : (size : ℕ) (initial target : List ℕ) (script : List Command) → Distinct initial → Distinct target
@@ -74,9 +105,16 @@ plan-two-verdict size initial target keep a =
     sound-safe size initial target (planTwo initial target keep) (a .first .distinct) (a .last .distinct)
     (plan-two-steps size initial target keep a)
 
+-- what holds of a list under a default holds of the policy that has both
+relist : (P : Policy → Type 0) (default : Action) (p : Policy) → default ≡ p .default → P (under default (p .list)) → P p
+relist P default p e h = rw e at h
+
 pub plan-two-changes-once : PlanTwoChangesOnce
-plan-two-changes-once m size initial target keep a =
-    steps-change-once m size initial target initial (planTwo initial target keep) (plan-two-steps size initial target keep a)
+plan-two-changes-once m size initial target keep one a =
+    let script = planTwo (initial .list) (target .list) keep in
+    relist (λ t. ChangesOnce m size initial t script (changePoint m t (policies size initial script))) (initial .default) target one
+    (steps-change-once m (initial .default) size (initial .list) (target .list) (initial .list) script
+    (plan-two-steps size (initial .list) (target .list) keep a))
 
 -- "I = T": type 1 keeps every rule, and the count leaves no command. In type 2 each rule of the target stands right after the
 -- front when it is taken, kept or not; so it joins the front, settled, and nothing is sent.

@@ -12,7 +12,7 @@ use lib.ListN.{length, take, getD}
 use Rattle.policy.specs.Command.{Outcome, passed, failed, step, faultNumber}
 use Rattle.policy.specs.Replay.{ended, broken, replayFrom, replay, lists}
 use Rattle.policy.specs.Properties.{Distinct, Makes, Leads, After}
-use Rattle.policy.specs.Claims.{Policy, ReplayIsLeads, ListsAreAfter, BreaksAt, RunningListFits}
+use Rattle.policy.specs.Claims.{Admitted, ReplayIsLeads, ListsAreAfter, BreaksAt, RunningListFits}
 use Rattle.policy.specs.Claims.{EachListIsAfter, ListsAreOneMore}
 use Rattle.policy.specs.declared.Command.{Command}
 use Rattle.policy.specs.declared.Fault.{Fault}
@@ -184,5 +184,5 @@ after-distinct size l m script k h d = leads-keeps Distinct size (makes-distinct
 
 pub running-list-fits : RunningListFits
 running-list-fits size initial script k l small policy after =
-    let kept = leads-keeps (Policy size) size (makes-policy size) initial l (take k script) (after .leads) policy in
+    let kept = leads-keeps (Admitted size) size (makes-policy size) initial l (take k script) (after .leads) policy in
     omega (arith, inside-length size l (kept .distinct) (kept .inside))

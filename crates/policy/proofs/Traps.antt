@@ -15,7 +15,7 @@ use lib.Dec.{eqb, ltb}
 use lib.ListN.{length, take, drop, getD, List·getD-append, length-append, length-drop}
 use lib.Seq.{getD-at, getD-take, length-take-le, split-at}
 use Rattle.policy.specs.Lists.{all, pick, mem, contains, before, after, without, same}
-use Rattle.policy.specs.Policy.{Matching, decideFrom, decide, decided}
+use Rattle.policy.specs.Policy.{Matching, under, decideFrom, decide, decided}
 use Rattle.policy.specs.Command.{ruleAt, lifted, placed, moved, needs, within, step}
 use Rattle.policy.specs.Replay.{replayFrom, replay, lists}
 use Rattle.policy.specs.AppendDelete.{keptRun}
@@ -26,15 +26,13 @@ use Rattle.policy.specs.Scanning.{scanTo, addWhere, addRules, adding, cl
 use Rattle.policy.specs.Traps.{KeepsPairs, ConditionOne, ConditionTwo, hitting, permits, sixth, CommonAndPairsAreNotEnough}
 use Rattle.policy.specs.Traps.{odd-permits, crossing, one-by-one, PairsLeaveHoles, ScanningTakesKeptOut, movedEarly}
 use Rattle.policy.specs.Traps.{CountingEarlyIsWrong, denies-but-one, EndsAreNotEnough, there-and-back, UnorderedMayBeSafe}
-use Rattle.policy.specs.declared.Action.the-variants.{Deny, Permit}
+use Rattle.policy.specs.declared.Action.{Action}
 use Rattle.policy.specs.declared.Command.{Command}
 use Rattle.policy.proofs.Tests.{byTest, not-second}
 use Rattle.policy.proofs.Lists.{place-in}
 use Rattle.policy.proofs.Order.{distinct-around, precedes-total, sublist-in, sublist-precedes}
+use Rattle.policy.proofs.Decisions.{permit-not-deny}
 use Rattle.policy.proofs.Replay.{replay-is-leads, lists-are-after, each-list-is-after}
-
-differ : Permit ≡ Deny → ⊥
-differ e = let clash : _≡_ {A = ℕ} 0 1 = cc in omega arith
 
 -- every list on the way of a script, where the checker computes them
 abbrev Each : (List ℕ → Type 0) → List (List ℕ) → Type 0
@@ -95,7 +93,7 @@ common-and-pairs-are-not-enough =
       refl,
       refl,
       refl,
-      λ safe. ⊎-elim differ differ (safe 1 [] between 0 refl),
+      λ safe. ⊎-elim permit-not-deny permit-not-deny (safe 1 [] between 0 refl),
     )
 
 pub pairs-leave-holes : PairsLeaveHoles
@@ -125,8 +123,8 @@ pairs-leave-holes =
       refl,
       refl,
       refl,
-      λ safe. ⊎-elim (λ e. differ (sym e)) (λ e. differ (sym e)) (safe 1 (1 ∷ []) hole 0 refl),
-      λ safe. ⊎-elim differ differ (safe 2 [] empty 1 refl),
+      λ safe. ⊎-elim (λ e. permit-not-deny (sym e)) (λ e. permit-not-deny (sym e)) (safe 1 (1 ∷ []) hole 0 refl),
+      λ safe. ⊎-elim permit-not-deny permit-not-deny (safe 2 [] empty 1 refl),
     )
 
 pub scanning-takes-kept-out : ScanningTakesKeptOut
@@ -168,9 +166,10 @@ unfolding replay replayFrom lists step needs within lifted placed mem decided de
 ends-are-not-enough = (refl, refl, List·Memᴰ·tail (List·Memᴰ·head refl), refl)
 
 -- the two rules in either order decide alike, where they say the same
-swapped : (m : Matching) → m .action 0 ≡ m .action 1 → decided m (1 ∷ 0 ∷ []) ≡ decided m (0 ∷ 1 ∷ [])
+swapped : (m : Matching) (default : Action) → m .action 0 ≡ m .action 1
+    → decided m (under default (1 ∷ 0 ∷ [])) ≡ decided m (under default (0 ∷ 1 ∷ []))
 unfolding decided decide decideFrom
-swapped m e =
+swapped m default e =
     byTest (m .hit 0)
     (λ t. byTest (m .hit 1) (λ s. rw (t, s, decided) (sym e)) (λ f. rw (t, f, decided)))
     (λ f. byTest (m .hit 1) (λ s. rw (f, s, decided)) (λ g. rw (f, g, decided)))
@@ -180,5 +179,7 @@ unfolding all mem contains before same replay replayFrom lists step needs within
     supportedBy supported full firstFailing firstUnsupported firstUnordered judged verdict verdictNumbers
 unordered-may-be-safe = (
   refl,
-  λ m e. each-after (λ l. decided m l ≡ decided m (0 ∷ 1 ∷ [])) 8 (0 ∷ 1 ∷ []) there-and-back (refl, (swapped m e, (refl, tt))),
+  λ m default e.
+      each-after (λ l. decided m (under default l) ≡ decided m (under default (0 ∷ 1 ∷ []))) 8 (0 ∷ 1 ∷ []) there-and-back
+      (refl, (swapped m default e, (refl, tt))),
 )

@@ -8,7 +8,7 @@ use mathlib.Core.Option.{Option, none, some}
 use lib.Dec.{eqb}
 use Rattle.policy.specs.Lists.{same}
 use Rattle.policy.specs.Rule.{Range, Rule}
-use Rattle.policy.specs.Policy.{decide, sameAction, matching}
+use Rattle.policy.specs.Policy.{Policy, under, decide, sameAction, matching}
 use Rattle.policy.specs.Command.{Outcome, passed, failed, step, faultNumber, Coded, coded}
 use Rattle.policy.specs.AppendDelete.{keptRun, planOne}
 use Rattle.policy.specs.InsertDeleteMove.{keptTwo, planTwo}
@@ -32,7 +32,7 @@ pub data Case : Type 0 where
   -- a running list, a command that fails, its number
   fails : List ℕ → Command → ℕ → Case
   -- a catalogue, a policy, a flow: the action and the place
-  decision : List Rule → List ℕ → Flow → Action → ℕ → Case
+  decision : List Rule → Policy → Flow → Action → ℕ → Case
 
 unfoldable pub size : ℕ
 size = 8
@@ -87,7 +87,7 @@ port-zero =
 unfoldable pub tunnel : Flow
 tunnel = record { protocol = 47; source = 3232235777; «source_port» = 0; destination = 167772161; «destination_port» = 0 }
 
--- the cases marked P, in the document's order; the given flow is "any flow"
+-- the cases marked P, in the document's order, and last the empty policy under default permit (02, L1); the given flow is "any flow"
 unfoldable pub cases : Flow → List Case
 cases any =
     insert-delete-move (0 ∷ 1 ∷ 2 ∷ 3 ∷ []) (1 ∷ 0 ∷ 4 ∷ 3 ∷ []) none
@@ -110,8 +110,9 @@ cases any =
     (DelRule 1 ∷ App 1 ∷ DelRule 0 ∷ App 0 ∷ DelRule 2 ∷ App 2 ∷ DelRule 3 ∷ App 3 ∷ []) (30 ∷ 1 ∷ 2 ∷ [])
     ∷ fails (0 ∷ 1 ∷ []) (Mov 2 3) 22
     ∷ passes (0 ∷ 1 ∷ []) (Ins 3 2) (0 ∷ 1 ∷ 2 ∷ [])
-    ∷ decision (port-zero ∷ []) [] any Deny 0
-    ∷ decision (port-zero ∷ []) (0 ∷ []) tunnel Permit 1
+    ∷ decision (port-zero ∷ []) (under Deny []) any Deny 0
+    ∷ decision (port-zero ∷ []) (under Deny (0 ∷ [])) tunnel Permit 1
+    ∷ decision (port-zero ∷ []) (under Permit []) any Permit 0
     ∷ []
 
 -- "Cases marked P are proved of the definitions by a single statement over one list of cases": none fails, whatever the flow.

@@ -1,6 +1,7 @@
 -- What a customer buys: demands 2 and 3 about the definitions, sentence by sentence. Each claim is a statement; proofs/ has, for
 -- each, a proof of the same name in small letters with hyphens. A flow enters only through a `Matching`: any match of rules and the flow, any
--- actions of the rules, any default. Assumes nothing.
+-- actions of the rules. What is said of flows is said of policies, under either default; what commands, plans and verdicts are is said of
+-- their lists, and no default has a part in it. Assumes nothing.
 use Prim.Native.Nat.{ℕ, suc, _+_, _*_, _≤_, _<_}
 use mathlib.Core.Path.{_≡_}
 use mathlib.Core.Bool.{Bool, true, false, cond}
@@ -9,22 +10,24 @@ use mathlib.Core.List.{List, [], _∷_, _++_, List·Memᴰ, Sublistᴰ}
 use mathlib.Core.Option.{Option, none, some}
 use lib.ListN.{length, getD}
 use Rattle.policy.specs.Lists.{common}
-use Rattle.policy.specs.Policy.{Matching, decide, decided, sameAction, most-rules, most-listed}
+use Rattle.policy.specs.Policy.{Matching, Policy, decide, decided, sameAction, most-rules, most-listed}
 use Rattle.policy.specs.Command.{ofType, faultNumber}
-use Rattle.policy.specs.Replay.{ended, replay, lists}
+use Rattle.policy.specs.Replay.{ended, replay, lists, policies}
 use Rattle.policy.specs.AppendDelete.{keptRun, planOne}
 use Rattle.policy.specs.InsertDeleteMove.{keptTwo, planTwo, movesInPlace}
 use Rattle.policy.specs.Judge.{verdict, verdictNumbers}
 use Rattle.policy.specs.Properties.{Precedes, Untouched, Allows, ScriptType}
-use Rattle.policy.specs.Properties.{In, Distinct, Supported, Ordered, Full, Fails, Leads, After, StandsAt}
+use Rattle.policy.specs.Properties.{In, Distinct, Supported, Ordered, Full, Fails, Leads, After, Runs, OneDefault, StandsAt}
+use Rattle.policy.specs.declared.Action.{Action}
+use Rattle.policy.specs.declared.Action.the-variants.{Deny, Permit}
 use Rattle.policy.specs.declared.Command.{Command}
 use Rattle.policy.specs.declared.Command.the-variants.{App, DelRule, Ins, DelPlace, Mov}
 use Rattle.policy.specs.declared.Decision.{Decision}
 use Rattle.policy.specs.declared.Fault.{Fault}
 use Rattle.policy.specs.declared.Verdict.{Verdict}
 
--- a policy that the reader accepts: its numbers are inside the catalogue (8), and no rule is named twice (9)
-pub record Policy (size : ℕ) (l : List ℕ) : Type 0 where
+-- the list of a policy that the reader accepts: its numbers are inside the catalogue (8), and no rule is named twice (9)
+pub record Admitted (size : ℕ) (l : List ℕ) : Type 0 where
   pub inside : (r : ℕ) → In r l → r < size
   pub distinct : Distinct l
 
@@ -35,8 +38,8 @@ Keepable initial target (some keep) = Sublistᴰ keep initial × Sublistᴰ keep
 
 -- two policies and a keep list that the reader accepts
 pub record Accepted (size : ℕ) (initial target : List ℕ) (keep : Option (List ℕ)) : Type 0 where
-  pub first : Policy size initial
-  pub last : Policy size target
+  pub first : Admitted size initial
+  pub last : Admitted size target
   pub keepable : Keepable initial target keep
 
 -- "go through the target in order and keep each common rule that stands in the initial policy after the last one kept": a rule of
@@ -62,31 +65,36 @@ abbrev pub NoMatch : Matching → List ℕ → Type 0
 NoMatch m l = (r : ℕ) → In r l → m .hit r ≡ false
 
 -- "The answer is the action and the place of that rule, places counted from 1, or place 0 for the default."
-abbrev pub Answers : Matching → List ℕ → Decision → Type 0
-Answers m l d =
-    ((rule : ℕ) × FirstMatch m l (d .place) rule × (d .action ≡ m .action rule))
-    ⊎ (NoMatch m l × (d .place ≡ 0) × (d .action ≡ m .default))
+abbrev pub Answers : Matching → Policy → Decision → Type 0
+Answers m p d =
+    ((rule : ℕ) × FirstMatch m (p .list) (d .place) rule × (d .action ≡ m .action rule))
+    ⊎ (NoMatch m (p .list) × (d .place ≡ 0) × (d .action ≡ p .default))
 
 -- A decision is the one answer that these words allow.
 abbrev pub DecisionIsFirstMatch : Type 0
-DecisionIsFirstMatch = (m : Matching) (l : List ℕ) (d : Decision) → (decide m l ≡ d) ↔ Answers m l d
+DecisionIsFirstMatch = (m : Matching) (p : Policy) (d : Decision) → (decide m p ≡ d) ↔ Answers m p d
 
 -- Its place is 0 exactly when no rule matches.
 abbrev pub PlaceZeroIsDefault : Type 0
-PlaceZeroIsDefault = (m : Matching) (l : List ℕ) → ((decide m l) .place ≡ 0) ↔ NoMatch m l
+PlaceZeroIsDefault = (m : Matching) (p : Policy) → ((decide m p) .place ≡ 0) ↔ NoMatch m (p .list)
 
--- A list that is ordered and full decides every flow as the initial policy or as the target does.
+-- three policies under one default: the initial one, the target and one between
+abbrev pub Between : Policy → Policy → Policy → Type 0
+Between initial target p = OneDefault initial target × OneDefault p initial
+
+-- A policy whose list is ordered and full decides every flow as the initial policy or as the target does.
 abbrev pub OrderedAndFullDecidesAsOne : Type 0
 OrderedAndFullDecidesAsOne =
-    (m : Matching) (initial target l : List ℕ) → Distinct l → Ordered initial target l → Full initial target l
-    → (decided m l ≡ decided m initial) ⊎ (decided m l ≡ decided m target)
+    (m : Matching) (initial target p : Policy) → Between initial target p
+    → Distinct (p .list) → Ordered (initial .list) (target .list) (p .list) → Full (initial .list) (target .list) (p .list)
+    → (decided m p ≡ decided m initial) ⊎ (decided m p ≡ decided m target)
 
--- A list that is ordered gives the default to every flow to which both policies give it: under default deny it permits no flow
--- that both deny.
+-- A policy whose list is ordered gives the default to every flow to which both policies give it: under default deny it permits no flow
+-- that both deny, under default permit it denies no flow that both permit.
 abbrev pub OrderedKeepsTheDefault : Type 0
 OrderedKeepsTheDefault =
-    (m : Matching) (initial target l : List ℕ) → Distinct l → Ordered initial target l
-    → decided m initial ≡ m .default → decided m target ≡ m .default → decided m l ≡ m .default
+    (m : Matching) (initial target p : Policy) → Between initial target p → Distinct (p .list) → Ordered (initial .list) (target .list) (p .list)
+    → decided m initial ≡ p .default → decided m target ≡ p .default → decided m p ≡ p .default
 
 -- Replay. A script replays to a list exactly when each command in turn makes of the list what document 01 says of it ..
 abbrev pub ReplayIsLeads : Type 0
@@ -188,25 +196,31 @@ VerdictSafe =
     × AllOrdered size initial target script
     × ((k : ℕ) (l : List ℕ) → After size initial script k l → Full initial target l))
 
--- A safe script: every list on its way decides every flow as one of the two policies does.
+-- A safe script: every policy on its way decides every flow as one of the two policies does.
+abbrev pub DecidesAsOne : ℕ → Policy → Policy → List Command → Type 0
+DecidesAsOne size initial target script =
+    (m : Matching) (k : ℕ) (p : Policy) → Runs size initial script k p → (decided m p ≡ decided m initial) ⊎ (decided m p ≡ decided m target)
+
 abbrev pub SafeDecidesAsOne : Type 0
 SafeDecidesAsOne =
-    (size : ℕ) (initial target : List ℕ) (script : List Command) → Distinct initial → Distinct target
-    → verdictNumbers (verdict size initial target script) ≡ 32 ∷ []
-    → (m : Matching) (k : ℕ) (l : List ℕ) → After size initial script k l
-    → (decided m l ≡ decided m initial) ⊎ (decided m l ≡ decided m target)
+    (size : ℕ) (initial target : Policy) (script : List Command) → OneDefault initial target → Distinct (initial .list) → Distinct (target .list)
+    → verdictNumbers (verdict size (initial .list) (target .list) script) ≡ 32 ∷ [] → DecidesAsOne size initial target script
 
--- every list on the way gives the default to each flow to which both policies give it: with default deny, "no flow that both
--- policies deny is ever permitted"
-abbrev pub KeepsTheDefault : ℕ → List ℕ → List ℕ → List Command → Type 0
-KeepsTheDefault size initial target script =
-    (m : Matching) → decided m initial ≡ m .default → decided m target ≡ m .default
-    → (k : ℕ) (l : List ℕ) → After size initial script k l → decided m l ≡ m .default
+-- no flow to which both policies give one action is ever given the other
+abbrev pub Never : Action → Action → ℕ → Policy → Policy → List Command → Type 0
+Never both ever size initial target script =
+    (m : Matching) → decided m initial ≡ both → decided m target ≡ both
+    → (k : ℕ) (p : Policy) → Runs size initial script k p → ¬ (decided m p ≡ ever)
+
+-- 01: "no flow that both policies deny is ever permitted"; 02, L1: with default permit, "no flow that both policies permit is ever denied"
+pub record KeepsTheDefault (size : ℕ) (initial target : Policy) (script : List Command) : Type 0 where
+  pub deny : initial .default ≡ Deny → Never Deny Permit size initial target script
+  pub permit : initial .default ≡ Permit → Never Permit Deny size initial target script
 
 abbrev pub NotFullKeepsTheDefault : Type 0
 NotFullKeepsTheDefault =
-    (size : ℕ) (initial target : List ℕ) (script : List Command) → Distinct initial → Distinct target
-    → verdictNumbers (verdict size initial target script) ≡ 31 ∷ [] → KeepsTheDefault size initial target script
+    (size : ℕ) (initial target : Policy) (script : List Command) → OneDefault initial target → Distinct (initial .list) → Distinct (target .list)
+    → verdictNumbers (verdict size (initial .list) (target .list) script) ≡ 31 ∷ [] → KeepsTheDefault size initial target script
 
 -- "type byte 1 or 2"; "Type 1: .. `app r`, .. `del r`. Type 2: .. `ins i r`, .. `del i`, .. `mov i j`": the script types, and which of them
 -- allows which command
@@ -232,7 +246,7 @@ KeptRunIsLongest =
 -- The script is of type 1, replays without a refusal and ends at the target.
 abbrev pub PlanOneReaches : Type 0
 PlanOneReaches =
-    (size : ℕ) (initial target : List ℕ) → Policy size initial → Policy size target
+    (size : ℕ) (initial target : List ℕ) → Admitted size initial → Admitted size target
     → (ofType 1 (planOne initial target) ≡ true) × Leads size initial (planOne initial target) target
 
 -- "The count is initial + target − 2 × kept"
@@ -244,7 +258,7 @@ PlanOneCount =
 -- No command deletes or appends a rule that is kept.
 abbrev pub PlanOneSparesKept : Type 0
 PlanOneSparesKept =
-    (size : ℕ) (initial target : List ℕ) → Policy size initial → Policy size target
+    (size : ℕ) (initial target : List ℕ) → Admitted size initial → Admitted size target
     → Untouched size initial (planOne initial target) (keptRun initial target)
 
 -- "no type 1 sequence in which every command succeeds and whose last list is the target is shorter"
@@ -256,15 +270,15 @@ PlanOneFewest =
 -- "every script of the type 1 planner gets 31 or 32"
 abbrev pub PlanOneVerdict : Type 0
 PlanOneVerdict =
-    (size : ℕ) (initial target : List ℕ) → Policy size initial → Policy size target
+    (size : ℕ) (initial target : List ℕ) → Admitted size initial → Admitted size target
     → (verdictNumbers (verdict size initial target (planOne initial target)) ≡ 31 ∷ [])
     ⊎ (verdictNumbers (verdict size initial target (planOne initial target)) ≡ 32 ∷ [])
 
--- On its way it permits no flow that both lists deny (default deny).
+-- On its way, under default deny, it permits no flow that both policies deny, and under default permit it denies none that both permit.
 abbrev pub PlanOneKeepsTheDefault : Type 0
 PlanOneKeepsTheDefault =
-    (size : ℕ) (initial target : List ℕ) → Policy size initial → Policy size target
-    → KeepsTheDefault size initial target (planOne initial target)
+    (size : ℕ) (initial target : Policy) → OneDefault initial target → Admitted size (initial .list) → Admitted size (target .list)
+    → KeepsTheDefault size initial target (planOne (initial .list) (target .list))
 
 -- Insert, delete and move. The script is of type 2, replays without a refusal and ends at the target.
 abbrev pub PlanTwoReaches : Type 0
@@ -304,25 +318,26 @@ PlanTwoVerdict =
     (size : ℕ) (initial target : List ℕ) (keep : Option (List ℕ)) → Accepted size initial target keep
     → verdictNumbers (verdict size initial target (planTwo initial target keep)) ≡ 32 ∷ []
 
--- the first list, counted from 0, that decides the flow as the target does
-unfoldable pub changePoint : Matching → List ℕ → List (List ℕ) → ℕ
+-- the first policy on the way, counted from 0, that decides the flow as the target does
+unfoldable pub changePoint : Matching → Policy → List Policy → ℕ
 changePoint m target [] = 0
-changePoint m target (l ∷ way) = cond (sameAction (decided m l) (decided m target)) 0 (suc (changePoint m target way))
+changePoint m target (p ∷ way) = cond (sameAction (decided m p) (decided m target)) 0 (suc (changePoint m target way))
 
--- Demand 3: "each flow has a point in the script before which every list decides it as the initial list does, and from which every
--- list decides it as the target does". The point, a number of commands, is the first list that decides as the target; it is 0
+-- Demand 3, for either default: "each flow has a point in the script before which every list decides it as the initial list does, and from
+-- which every list decides it as the target does". The point, a number of commands, is the first policy that decides as the target; it is 0
 -- where the two policies agree.
-pub record ChangesOnce (m : Matching) (size : ℕ) (initial target : List ℕ) (script : List Command) (point : ℕ) : Type 0 where
+pub record ChangesOnce (m : Matching) (size : ℕ) (initial target : Policy) (script : List Command) (point : ℕ) : Type 0 where
   pub within : point ≤ length script
-  pub before : (k : ℕ) (l : List ℕ) → k < point → After size initial script k l → decided m l ≡ decided m initial
-  pub from : (k : ℕ) (l : List ℕ) → point ≤ k → After size initial script k l → decided m l ≡ decided m target
+  pub before : (k : ℕ) (p : Policy) → k < point → Runs size initial script k p → decided m p ≡ decided m initial
+  pub from : (k : ℕ) (p : Policy) → point ≤ k → Runs size initial script k p → decided m p ≡ decided m target
   pub agreed : decided m initial ≡ decided m target → point ≡ 0
 
 abbrev pub PlanTwoChangesOnce : Type 0
 PlanTwoChangesOnce =
-    (m : Matching) (size : ℕ) (initial target : List ℕ) (keep : Option (List ℕ)) → Accepted size initial target keep
-    → ChangesOnce m size initial target (planTwo initial target keep)
-    (changePoint m target (lists size initial (planTwo initial target keep)))
+    (m : Matching) (size : ℕ) (initial target : Policy) (keep : Option (List ℕ)) → OneDefault initial target
+    → Accepted size (initial .list) (target .list) keep
+    → ChangesOnce m size initial target (planTwo (initial .list) (target .list) keep)
+    (changePoint m target (policies size initial (planTwo (initial .list) (target .list) keep)))
 
 -- "I = T: no command of either type", whatever the keep list; "verdict 32"
 abbrev pub NothingToDo : Type 0
@@ -335,7 +350,7 @@ NothingToDo =
 -- Numbers. "A running list never exceeds 1,024, since its rules differ."
 abbrev pub RunningListFits : Type 0
 RunningListFits =
-    (size : ℕ) (initial : List ℕ) (script : List Command) (k : ℕ) (l : List ℕ) → size ≤ most-rules → Policy size initial
+    (size : ℕ) (initial : List ℕ) (script : List Command) (k : ℕ) (l : List ℕ) → size ≤ most-rules → Admitted size initial
     → After size initial script k l → length l ≤ most-rules
 
 -- A planned script of either type has at most 1,024 commands, and so fits a script field.

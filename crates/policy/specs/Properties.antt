@@ -5,6 +5,7 @@ use mathlib.Core.Path.{_≡_}
 use mathlib.Core.Logic.{_⊎_}
 use mathlib.Core.List.{List, [], _∷_, _++_, List·Memᴰ}
 use lib.ListN.{length, take}
+use Rattle.policy.specs.Policy.{Policy}
 use Rattle.policy.specs.Command.{coded, codesOf}
 use Rattle.policy.specs.declared.Command.{Command}
 use Rattle.policy.specs.declared.Command.the-variants.{App, DelRule, Ins, DelPlace, Mov}
@@ -117,6 +118,15 @@ Leads size l (c ∷ script) n = (m : List ℕ) × Makes size l c m × Leads size
 pub record After (size : ℕ) (initial : List ℕ) (script : List Command) (k : ℕ) (l : List ℕ) : Type 0 where
   pub reached : k ≤ length script
   pub leads : Leads size initial (take k script) l
+
+-- the policy after the first k commands: they edit its list, and "no command changes" its default (02, L1)
+pub record Runs (size : ℕ) (initial : Policy) (script : List Command) (k : ℕ) (running : Policy) : Type 0 where
+  pub edited : After size (initial .list) script k (running .list)
+  pub default : running .default ≡ initial .default
+
+-- the default "belongs to both policies" (02, L1)
+abbrev pub OneDefault : Policy → Policy → Type 0
+OneDefault initial target = initial .default ≡ target .default
 
 -- the rule at a place, places counted from 1
 pub record StandsAt (l : List ℕ) (place r : ℕ) : Type 0 where

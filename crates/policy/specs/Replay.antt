@@ -1,7 +1,8 @@
 -- 01, "The ordering rule and the judge": "The judge replays from the initial policy; the lists judged are the initial one (step 0)
--- and the one after each command." Assumes nothing.
+-- and the one after each command." A command edits the list of a policy and leaves its default. Assumes nothing.
 use Prim.Native.Nat.{ℕ, suc}
-use mathlib.Core.List.{List, [], _∷_}
+use mathlib.Core.List.{List, [], _∷_, map}
+use Rattle.policy.specs.Policy.{Policy, under}
 use Rattle.policy.specs.Command.{Outcome, passed, failed, step}
 use Rattle.policy.specs.declared.Command.{Command}
 use Rattle.policy.specs.declared.Fault.{Fault}
@@ -23,3 +24,7 @@ replay size l script = replayFrom size 0 l script
 unfoldable pub lists : ℕ → List ℕ → List Command → List (List ℕ)
 lists size l [] = l ∷ []
 lists size l (c ∷ script) = l ∷ elim (step size l c) [ passed m ↦ lists size m script | failed fault ↦ [] ]
+
+-- the policies on the way: those lists, each under the default, which "no command changes" (02, L1)
+unfoldable pub policies : ℕ → Policy → List Command → List Policy
+policies size p script = map (under (p .default)) (lists size (p .list) script)

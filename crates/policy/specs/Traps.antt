@@ -7,7 +7,7 @@ use mathlib.Core.Logic.{_⊎_, _≢_}
 use mathlib.Core.List.{List, [], _∷_, List·Memᴰ}
 use lib.ListN.{length}
 use lib.Dec.{eqb, ltb}
-use Rattle.policy.specs.Policy.{Matching, decided}
+use Rattle.policy.specs.Policy.{Matching, Policy, under, decided}
 use Rattle.policy.specs.Command.{ruleAt, lifted, placed, moved}
 use Rattle.policy.specs.Replay.{ended, replay, lists}
 use Rattle.policy.specs.AppendDelete.{keptRun}
@@ -25,13 +25,17 @@ pub record Deploys (Condition : List ℕ → Type 0) (size : ℕ) (initial targe
   pub ends : Leads size initial script target
   pub throughout : (k : ℕ) (l : List ℕ) → After size initial script k l → Condition l
 
+-- the papers know one default: what no rule matches is denied
+abbrev pub denying : List ℕ → Policy
+denying = under Deny
+
 -- 002, 3.3: a policy A is "denial-safe w.r.t. policies B and C iff every packet that A denies is also denied by B or C", and
 -- permission-safe likewise; a deployment is so "iff at every moment during the deployment the running policy is". Packets are
 -- numbered, and each meets the same rules in its own way.
 abbrev pub SafeIn : Action → (ℕ → Matching) → ℕ → List ℕ → List ℕ → List Command → Type 0
 SafeIn action packets size initial target script =
-    (k : ℕ) (l : List ℕ) → After size initial script k l → (p : ℕ) → decided (packets p) l ≡ action
-    → (decided (packets p) initial ≡ action) ⊎ (decided (packets p) target ≡ action)
+    (k : ℕ) (l : List ℕ) → After size initial script k l → (p : ℕ) → decided (packets p) (denying l) ≡ action
+    → (decided (packets p) (denying initial) ≡ action) ⊎ (decided (packets p) (denying target) ≡ action)
 
 abbrev pub DenialSafe : (ℕ → Matching) → ℕ → List ℕ → List ℕ → List Command → Type 0
 DenialSafe = SafeIn Deny
@@ -61,9 +65,9 @@ ConditionOne initial target l =
 abbrev pub ConditionTwo : List ℕ → List ℕ → List ℕ → Type 0
 ConditionTwo initial target l = OnlyTheirs initial target l × KeepsPairs initial target l
 
--- every rule matches the flow; rules say what is given; the default is deny
+-- every rule matches the flow; rules say what is given
 unfoldable pub hitting : (ℕ → Action) → Matching
-hitting actions = record { hit = λ r. true; action = actions; default = Deny }
+hitting actions = record { hit = λ r. true; action = actions }
 
 -- "002's condition that common rules stay present and pairs keep their order isn't enough: in the sixth case let rules 0 and 1
 -- permit the same flow. The empty list between denies it." So the deployment meets Theorem 1's condition and isn't denial-safe.
@@ -77,9 +81,9 @@ abbrev pub CommonAndPairsAreNotEnough : Type 0
 CommonAndPairsAreNotEnough =
     Deploys (ConditionOne (0 ∷ []) (1 ∷ [])) 8 (0 ∷ []) (1 ∷ []) sixth
     × After 8 (0 ∷ []) sixth 1 []
-    × (decided (hitting permits) (0 ∷ []) ≡ Permit)
-    × (decided (hitting permits) (1 ∷ []) ≡ Permit)
-    × (decided (hitting permits) [] ≡ Deny)
+    × (decided (hitting permits) (denying (0 ∷ [])) ≡ Permit)
+    × (decided (hitting permits) (denying (1 ∷ [])) ≡ Permit)
+    × (decided (hitting permits) (denying []) ≡ Deny)
     × ¬ DenialSafe (λ p. hitting permits) 8 (0 ∷ []) (1 ∷ []) sixth
 
 -- "002's weaker condition doesn't stop holes: a deny removed before another deny that covers the same flow is in." Rules 0 and 2
@@ -89,7 +93,7 @@ unfoldable pub odd-permits : ℕ → Action
 odd-permits r = cond (eqb r 1 || eqb r 3) Permit Deny
 
 unfoldable pub crossing : ℕ → Matching
-crossing p = record { hit = λ r. eqb p 0 || (eqb r 1 || eqb r 3); action = odd-permits; default = Deny }
+crossing p = record { hit = λ r. eqb p 0 || (eqb r 1 || eqb r 3); action = odd-permits }
 
 abbrev pub one-by-one : List Command
 one-by-one = DelPlace 1 ∷ DelPlace 1 ∷ Ins 1 2 ∷ Ins 2 3 ∷ []
@@ -98,9 +102,9 @@ abbrev pub PairsLeaveHoles : Type 0
 PairsLeaveHoles =
     Deploys (ConditionTwo (0 ∷ 1 ∷ []) (2 ∷ 3 ∷ [])) 8 (0 ∷ 1 ∷ []) (2 ∷ 3 ∷ []) one-by-one
     × After 8 (0 ∷ 1 ∷ []) one-by-one 1 (1 ∷ [])
-    × (decided (crossing 0) (0 ∷ 1 ∷ []) ≡ Deny)
-    × (decided (crossing 0) (2 ∷ 3 ∷ []) ≡ Deny)
-    × (decided (crossing 0) (1 ∷ []) ≡ Permit)
+    × (decided (crossing 0) (denying (0 ∷ 1 ∷ [])) ≡ Deny)
+    × (decided (crossing 0) (denying (2 ∷ 3 ∷ [])) ≡ Deny)
+    × (decided (crossing 0) (denying (1 ∷ [])) ≡ Permit)
     × ¬ PermissionSafe crossing 8 (0 ∷ 1 ∷ []) (2 ∷ 3 ∷ []) one-by-one
     × ¬ DenialSafe crossing 8 (0 ∷ 1 ∷ []) (2 ∷ 3 ∷ []) one-by-one
 
@@ -132,17 +136,17 @@ out-and-in = DelPlace 1 ∷ Ins 1 0 ∷ []
 abbrev pub EndsAreNotEnough : Type 0
 EndsAreNotEnough =
     (replay 8 (0 ∷ 1 ∷ []) out-and-in ≡ ended (0 ∷ 1 ∷ []))
-    × (decided (hitting denies-but-one) (0 ∷ 1 ∷ []) ≡ Deny)
+    × (decided (hitting denies-but-one) (denying (0 ∷ 1 ∷ [])) ≡ Deny)
     × List·Memᴰ (1 ∷ []) (lists 8 (0 ∷ 1 ∷ []) out-and-in)
-    × (decided (hitting denies-but-one) (1 ∷ []) ≡ Permit)
+    × (decided (hitting denies-but-one) (denying (1 ∷ [])) ≡ Permit)
 
 -- "A verdict of 30 says that safety isn't shown; such a script may still be safe": rules 0 and 1 change places and change back. Where
--- both rules say the same, each list on the way decides every flow as the two policies do, which are one list.
+-- both rules say the same, each list on the way decides every flow as the two policies do, which are one list, under either default.
 abbrev pub there-and-back : List Command
 there-and-back = Mov 1 2 ∷ Mov 1 2 ∷ []
 
 abbrev pub UnorderedMayBeSafe : Type 0
 UnorderedMayBeSafe =
     (verdictNumbers (verdict 8 (0 ∷ 1 ∷ []) (0 ∷ 1 ∷ []) there-and-back) ≡ 30 ∷ 1 ∷ 1 ∷ [])
-    × ((m : Matching) → m .action 0 ≡ m .action 1
-    → (k : ℕ) (l : List ℕ) → After 8 (0 ∷ 1 ∷ []) there-and-back k l → decided m l ≡ decided m (0 ∷ 1 ∷ []))
+    × ((m : Matching) (default : Action) → m .action 0 ≡ m .action 1
+    → (k : ℕ) (l : List ℕ) → After 8 (0 ∷ 1 ∷ []) there-and-back k l → decided m (under default l) ≡ decided m (under default (0 ∷ 1 ∷ [])))

@@ -12,10 +12,10 @@ use borrow.Author.Tests.{eq-eqb}
 use Rattle.policy.specs.Policy.{most-rules}
 use Rattle.deployment.specs.Checked.{good}
 use Rattle.deployment.specs.Bytes.{chunks, joined}
-use Rattle.deployment.specs.Values.{rule-bytes, numbersOf, numbersBytes, listFits}
+use Rattle.deployment.specs.Values.{rule-bytes, default-bytes, numbersOf, numbersBytes, listFits}
 use Rattle.deployment.specs.Catalogue.{catalogueOf}
-use Rattle.deployment.specs.Contents.{ruleRead, policyRead, keepRead, scriptRead}
-use Rattle.deployment.specs.FieldValues.{policyValue, keepValue, scriptValue}
+use Rattle.deployment.specs.Contents.{ruleRead, policyRead, defaultRead, keepRead, scriptRead}
+use Rattle.deployment.specs.FieldValues.{policyValue, defaultValue, keepValue, scriptValue}
 use Rattle.deployment.specs.File.{
   Fields,
   Field,
@@ -25,12 +25,14 @@ use Rattle.deployment.specs.File.{
   fieldRead,
   withRule,
   withPolicy,
+  withDefault,
   withKeep,
   withScript,
   withField,
   rule-tag,
   initial-tag,
   target-tag,
+  default-tag,
   keep-tag,
   script-tag,
   head-bytes,
@@ -58,6 +60,7 @@ use Rattle.deployment.proofs.Taken.{
   with-tag,
   rule-size,
   list-size,
+  default-size,
   script-size,
 }
 use Rattle.catalogue.specs.Answers.{checking, ruleValue}
@@ -126,27 +129,33 @@ module _
       rw (with-tag f value e, same-catalogue, eq-eqb (length value) rule-bytes (rule-size e right))
       (checking-last (ruleRead (f .catalogue) value) _)
 
-  list-fits : ¬ (tag ≡ rule-tag) → ¬ (tag ≡ script-tag) → listFits (length value) ≡ true
-  list-fits n m = says-list (length value) .1 (list-size n m right)
+  list-fits : ¬ (tag ≡ rule-tag) → ¬ (tag ≡ script-tag) → ¬ (tag ≡ default-tag) → listFits (length value) ≡ true
+  list-fits n m o = says-list (length value) .1 (list-size n m o right)
 
   -- a policy's tag is what is left
-  policy-left : ¬ (tag ≡ rule-tag) → ¬ (tag ≡ keep-tag) → ¬ (tag ≡ script-tag) → (tag ≡ initial-tag) ⊎ (tag ≡ target-tag)
-  policy-left r k s =
+  policy-left : ¬ (tag ≡ rule-tag) → ¬ (tag ≡ default-tag) → ¬ (tag ≡ keep-tag) → ¬ (tag ≡ script-tag)
+      → (tag ≡ initial-tag) ⊎ (tag ≡ target-tag)
+  policy-left r d k s =
       by-tag (λ x. tag ≡ x → (tag ≡ initial-tag) ⊎ (tag ≡ target-tag)) (lastTag f) stands
-      (λ e. absurd (r e)) (λ e. inl e) (λ e. inr e) (λ e. absurd (k e)) (λ e. absurd (s e)) refl
+      (λ e. absurd (r e)) (λ e. inl e) (λ e. inr e) (λ e. absurd (d e)) (λ e. absurd (k e)) (λ e. absurd (s e)) refl
 
-  pub checked-policy : ¬ (tag ≡ rule-tag) → ¬ (tag ≡ keep-tag) → ¬ (tag ≡ script-tag)
+  pub checked-policy : ¬ (tag ≡ rule-tag) → ¬ (tag ≡ default-tag) → ¬ (tag ≡ keep-tag) → ¬ (tag ≡ script-tag)
       → checking (policyValue (min (progress .layout .rules) 1024) value)
       ≡ checking (withField f (record { tag = tag; value = value }))
   unfolding policyValue withField withPolicy
-  checked-policy r k s =
+  checked-policy r d k s =
       let few : min (progress .layout .rules) 1024 ≡ length (f .catalogue) =
       omega (arith, same-count file progress f b, b .readable .catalogue .few) in
-      rw (few, list-fits r s)
+      rw (few, list-fits r s d)
       (⊎-elim
       (λ e. rw (with-tag f value {tag = tag} {x = initial-tag} e) (checking-last (policyRead (length (f .catalogue)) value) _))
       (λ e. rw (with-tag f value {tag = tag} {x = target-tag} e) (checking-last (policyRead (length (f .catalogue)) value) _))
-      (policy-left r k s))
+      (policy-left r d k s))
+
+  pub checked-default : tag ≡ default-tag → checking (defaultValue (some value)) ≡ checking (withField f (record { tag = tag; value = value }))
+  unfolding defaultValue withField withDefault
+  checked-default e =
+      rw (with-tag f value e, eq-eqb (length value) default-bytes (default-size e right)) (checking-last (defaultRead value) _)
 
   same-initial : numbersOf (valueAt (progress .layout .initial) file) ≡ listed (f .initial)
   unfolding progressOf
@@ -168,7 +177,7 @@ module _
       ≡ checking (withField f (record { tag = tag; value = value }))
   unfolding keepValue withField withKeep
   checked-keep initial target i t e =
-      rw (with-tag f value e, list-fits (omega arith) (omega arith), i, t, same-initial, same-target)
+      rw (with-tag f value e, list-fits (omega arith) (omega arith) (omega arith), i, t, same-initial, same-target)
       (sym (checking-last (keepRead (listed (f .initial)) (listed (f .target)) value) _)
       ∙ checking-last (keepRead (listed (f .initial)) (listed (f .target)) value) _)
 

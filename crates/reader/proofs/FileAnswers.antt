@@ -2,6 +2,7 @@
 -- written are fields that were read to the end, so the laws of places hold of them. Assumes nothing.
 use Prim.Native.Nat.{ℕ, _*_}
 use mathlib.Core.Path.{_≡_, refl, sym, _∙_, ap}
+use mathlib.Core.Bool.{cond}
 use mathlib.Core.List.{List, [], _∷_, _++_, map, append-nil}
 use mathlib.Core.Option.{Option, none, some}
 use lib.ListN.{length, take}
@@ -9,19 +10,22 @@ use lib.Seq.{take-at}
 use denote.Ref.{now}
 use Rattle.policy.specs.Rule.{Rule}
 use Rattle.policy.specs.Claims.{Keepable}
+use Rattle.policy.specs.declared.Action.{Action}
+use Rattle.policy.specs.declared.Action.the-variants.{Deny, Permit}
 use Rattle.deployment.specs.Bytes.{joined, chunks}
-use Rattle.deployment.specs.Values.{Script, ruleBytes, numbersOf, numbersBytes, scriptOf, scriptBytes}
+use Rattle.deployment.specs.Values.{Script, ruleBytes, numbersOf, numbersBytes, defaultBytes, defaultField, scriptOf, scriptBytes}
 use Rattle.deployment.specs.Catalogue.{recordCount, recordsOf, catalogueOf}
 use Rattle.deployment.specs.Contents.{Contents}
 use Rattle.deployment.specs.File.{Reading, accepted, readFile, readToJudge, listed, fileOf, rule-tag, fieldBytes}
 use Rattle.deployment.specs.Properties.{AreBytes, IfThere, Scripted, Valid, fieldsBytes}
-use Rattle.deployment.proofs.Values.{length-numbers, policy-numbers, keep-numbers}
+use Rattle.deployment.proofs.Values.{length-numbers, length-default, policy-numbers, keep-numbers}
 use Rattle.deployment.proofs.Scripts.{length-script, script-read}
 use Rattle.deployment.proofs.ReadBack.{rules-length, fieldsOf, file-fields, read-back}
 use Rattle.deployment.proofs.Reader.{written-again}
-use Rattle.reader.specs.Answers.{valueAt, spanFrom, spanIf, keepBytes, commandBytes, layoutOf, ruleSpan, shown, fileRead}
+use Rattle.values.specs.Answers.{there}
+use Rattle.reader.specs.Answers.{valueAt, spanFrom, spanIf, keepBytes, actionBytes, commandBytes, layoutOf, ruleSpan, shown, fileRead}
 use Rattle.reader.specs.Steps.{layoutSoFar}
-use Rattle.reader.specs.Claims.{ListStands, ScriptStands, Stands, AcceptedFile, WrittenFile}
+use Rattle.reader.specs.Claims.{ListStands, DefaultStands, ScriptStands, Stands, AcceptedFile, WrittenFile}
 use Rattle.reader.specs.declared.Span.{Span}
 use Rattle.reader.specs.declared.Layout.{Layout}
 use Rattle.reader.specs.declared.FileRead.{FileRead}
@@ -29,6 +33,7 @@ use Rattle.reader.specs.declared.FileRead.the-variants.{Accepted}
 use Rattle.reader.proofs.ValuePlaces.{
   initial-stands,
   target-stands,
+  default-part-stands,
   keep-stands,
   script-part-stands,
   catalogue-front,
@@ -59,11 +64,15 @@ places-of c = refl
 bytes-of : (c : Contents) → fieldsBytes (fieldsOf c) ++ [] ≡ fileOf c
 bytes-of c = append-nil (fieldsBytes (fieldsOf c)) ∙ sym (file-fields c)
 
--- a list that is read back from its bytes, and a script, where their bytes stand
+-- a list that is read back from its bytes, a default, and a script, where their bytes stand
 a-list-stands : (file : List ℕ) (span : Span) (l : List ℕ) → numbersOf (numbersBytes l) ≡ l
     → valueAt span file ≡ numbersBytes l → span .size ≡ length (numbersBytes l) → ListStands file span l
 a-list-stands file span l back bytes size =
     record { bytes = bytes; numbers = ap numbersOf bytes ∙ back; size = size ∙ length-numbers l }
+
+a-default-stands : (file : List ℕ) (span : Span) (action : Action)
+    → valueAt span file ≡ defaultBytes action → span .size ≡ length (defaultBytes action) → DefaultStands file span action
+a-default-stands file span action bytes size = record { bytes = bytes; size = size ∙ length-default action }
 
 a-script-stands : (file : List ℕ) (span : Span) (s : Script) → Scripted s
     → valueAt span file ≡ scriptBytes s → span .size ≡ length (scriptBytes s) → ScriptStands file span s
@@ -100,6 +109,11 @@ module _ (c : Contents) (valid : Valid c) where
   unfolding fieldsOf listed
   target-bytes = rw (← places-of c, ← bytes-of c) (target-stands (fieldsOf c) [])
 
+  default-in-bytes : valueAt ((layoutOf c) .default) (fileOf c)
+      ≡ elim (defaultField (c .default)) [ none ↦ [] | some action ↦ defaultBytes action ]
+  unfolding fieldsOf
+  default-in-bytes = rw (← places-of c, ← bytes-of c) (default-part-stands (fieldsOf c) [])
+
   keep-bytes : valueAt ((layoutOf c) .keep) (fileOf c) ≡ numbersBytes (listed (c .keep))
   unfolding fieldsOf listed
   keep-bytes = rw (← places-of c, ← bytes-of c) (keep-stands (fieldsOf c) [])
@@ -107,6 +121,12 @@ module _ (c : Contents) (valid : Valid c) where
   script-bytes : valueAt ((layoutOf c) .script) (fileOf c) ≡ elim (c .script) [ none ↦ [] | some script ↦ scriptBytes script ]
   unfolding fieldsOf
   script-bytes = rw (← places-of c, ← bytes-of c) (script-part-stands (fieldsOf c) [])
+
+  default-there : (default : Option Action) → defaultField (c .default) ≡ default
+      → IfThere (DefaultStands (fileOf c) ((layoutOf c) .default)) default
+  unfolding layoutOf spanIf spanFrom actionBytes
+  default-there none e = tt
+  default-there (some action) e = a-default-stands (fileOf c) ((layoutOf c) .default) action (default-in-bytes ∙ rw e) (rw e)
 
   keep-there : (keep : Option (List ℕ)) → c .keep ≡ keep → IfThere (ListStands (fileOf c) ((layoutOf c) .keep)) keep
   unfolding layoutOf spanIf spanFrom keepBytes listed
@@ -141,11 +161,23 @@ module _ (c : Contents) (valid : Valid c) where
         target =
             a-list-stands (fileOf c) ((layoutOf c) .target) (c .target)
             (policy-numbers (length (c .catalogue)) (c .target) (valid .catalogue .few) (valid .target .sound)) target-bytes refl;
+        has-default = refl;
+        default = default-there (defaultField (c .default)) refl;
         has-keep = refl;
         keep = keep-there (c .keep) refl;
         has-script = refl;
         script = script-there (c .script) refl;
       }
+
+-- "value 1 means permit, absence means deny": the default is known by whether its field is there
+pub default-stands : (action : Action) → cond (there (defaultField action)) Permit Deny ≡ action
+unfolding there defaultField
+default-stands Deny = refl
+default-stands Permit = refl
+
+-- and so from the places
+pub default-placed : (file : List ℕ) (layout : Layout) (c : Contents) → Stands file layout c → cond (layout .«has_default») Permit Deny ≡ c .default
+default-placed file layout c stands = rw (stands .has-default) (default-stands (c .default))
 
 -- A reading accepts contents that stand in the file.
 pub record Holds (reading : Reading) (file : List ℕ) (layout : Layout) : Type 0 where

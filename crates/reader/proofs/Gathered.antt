@@ -9,8 +9,9 @@ use mathlib.Core.Option.{Option, none, some}
 use lib.ListN.{length, length-append}
 use denote.Ref.{now}
 use Rattle.policy.specs.Rule.{Rule}
+use Rattle.policy.specs.declared.Action.{Action}
 use Rattle.deployment.specs.Bytes.{joined}
-use Rattle.deployment.specs.Values.{Script, ruleBytes, numbersBytes, scriptBytes}
+use Rattle.deployment.specs.Values.{Script, ruleBytes, numbersBytes, defaultBytes, defaultField, scriptBytes}
 use Rattle.deployment.specs.Contents.{Contents}
 use Rattle.deployment.specs.File.{accepted, readFile}
 use Rattle.deployment.specs.Properties.{AreBytes, IfThere}
@@ -19,7 +20,7 @@ use Rattle.deployment.proofs.Bytes.{from-the-end}
 use Rattle.deployment.proofs.Fields.{joined-snoc, map-snoc}
 use Rattle.values.specs.Answers.{given, valuesGiven, there}
 use Rattle.reader.specs.Answers.{valueAt, rulesGathered, valuesGathered}
-use Rattle.reader.specs.Claims.{ListStands, ScriptStands, Stands, GatheredFile}
+use Rattle.reader.specs.Claims.{ListStands, DefaultStands, ScriptStands, Stands, GatheredFile}
 use Rattle.reader.specs.declared.Span.{Span}
 use Rattle.reader.specs.declared.Layout.{Layout}
 use Rattle.reader.specs.declared.FileRead.the-variants.{Accepted}
@@ -46,26 +47,33 @@ module _ (file : List ℕ) (layout : Layout) (c : Contents) (stands : Stands fil
   rules-gathered : rulesGathered (layout .rules) file ≡ joined (map ruleBytes (c .catalogue))
   rules-gathered = rw (stands .count) (front-gathered (c .catalogue) [] (sym (append-nil (c .catalogue))))
 
-  keep-gathered : (is : Bool) (span : Span) (keep : Option (List ℕ)) → is ≡ there keep → IfThere (ListStands file span) keep
-      → given is (valueAt span file) ≡ elim keep [ none ↦ none | some keep ↦ some (numbersBytes keep) ]
+  -- a value that may be absent
+  if-there-gathered : {A : Type 0} (written : A → List ℕ) (Lies : A → Type 0) (is : Bool) (span : Span)
+      → ((a : A) → Lies a → valueAt span file ≡ written a) → (o : Option A) → is ≡ there o → IfThere Lies o
+      → given is (valueAt span file) ≡ elim o [ none ↦ none | some a ↦ some (written a) ]
   unfolding given there
-  keep-gathered is span none has lies = rw has
-  keep-gathered is span (some keep) has lies = rw (has, lies .bytes)
-
-  script-gathered : (is : Bool) (span : Span) (script : Option Script) → is ≡ there script → IfThere (ScriptStands file span) script
-      → given is (valueAt span file) ≡ elim script [ none ↦ none | some script ↦ some (scriptBytes script) ]
-  unfolding given there
-  script-gathered is span none has lies = rw has
-  script-gathered is span (some script) has lies = rw (has, lies .bytes)
+  if-there-gathered written Lies is span bytes none has lies = rw has
+  if-there-gathered written Lies is span bytes (some a) has lies = rw (has, bytes a lies)
 
   values-gathered : valuesGathered layout file ≡ valuesOf c
   unfolding valuesGathered valuesGiven valuesOf
   values-gathered =
       let initial = stands .initial .bytes in
       let target = stands .target .bytes in
-      let keep = keep-gathered (layout .«has_keep») (layout .keep) (c .keep) (stands .has-keep) (stands .keep) in
-      let script = script-gathered (layout .«has_script») (layout .script) (c .script) (stands .has-script) (stands .script) in
-      λ j. record { rules = rules-gathered j; initial = initial j; target = target j; keep = keep j; script = script j }
+      let default = if-there-gathered defaultBytes (DefaultStands file (layout .default)) (layout .«has_default») (layout .default)
+      (λ action lies. lies .bytes) (defaultField (c .default)) (stands .has-default) (stands .default) in
+      let keep = if-there-gathered numbersBytes (ListStands file (layout .keep)) (layout .«has_keep») (layout .keep)
+      (λ l lies. lies .bytes) (c .keep) (stands .has-keep) (stands .keep) in
+      let script = if-there-gathered scriptBytes (ScriptStands file (layout .script)) (layout .«has_script») (layout .script)
+      (λ s lies. lies .bytes) (c .script) (stands .has-script) (stands .script) in
+      λ j. record {
+        rules = rules-gathered j;
+        initial = initial j;
+        target = target j;
+        default = default j;
+        keep = keep j;
+        script = script j;
+      }
 
 pub gathered-file : GatheredFile
 gathered-file file layout b e =

@@ -32,13 +32,16 @@ pub only-tag : (tag x : ℕ) → eqb tag x ≡ mem tag (x ∷ [])
 unfolding mem
 only-tag tag x = eqb-swap tag x ∙ byTest (eqb x tag) (λ t. rw t) (λ f. rw f)
 
-pub first-tag : (tag x y : ℕ) → tag ≡ x → eqb tag x ≡ mem tag (x ∷ y ∷ [])
+pub first-tag : (tag x : ℕ) (others : List ℕ) → tag ≡ x → eqb tag x ≡ mem tag (x ∷ others)
 unfolding mem
-first-tag tag x y e = eq-eqb tag x e ∙ rw (eq-eqb x tag (sym e))
+first-tag tag x others e = eq-eqb tag x e ∙ rw (eq-eqb x tag (sym e))
+
+pub later-tag : (tag x : ℕ) (others : List ℕ) → (tag ≡ x → ⊥) → mem tag others ≡ mem tag (x ∷ others)
+unfolding mem
+later-tag tag x others n = rw (ne-eqb x tag (λ e. n (sym e)))
 
 pub second-tag : (tag x y : ℕ) → (tag ≡ x → ⊥) → eqb tag y ≡ mem tag (x ∷ y ∷ [])
-unfolding mem
-second-tag tag x y n = only-tag tag y ∙ rw (ne-eqb x tag (λ e. n (sym e)))
+second-tag tag x y n = only-tag tag y ∙ later-tag tag x (y ∷ []) n
 
 -- The head of a field, from the bytes at a position.
 module _ (file : List ℕ) (at : ℕ) (headed : 3 ≤ length file - at) where

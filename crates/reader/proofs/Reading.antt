@@ -10,10 +10,11 @@ use lib.ListN.{length, take, drop, length-append, length-drop, drop-of-length-le
 use lib.Seq.{drop-drop, drop-at}
 use Rattle.policy.specs.Lists.{mem}
 use Rattle.policy.specs.Rule.{Rule}
+use Rattle.policy.specs.declared.Action.{Action}
 use Rattle.policy.proofs.Lists.{not-mem}
 use Rattle.deployment.specs.Checked.{Checked, good, bad}
 use Rattle.deployment.specs.Bytes.{part, joined}
-use Rattle.deployment.specs.Values.{Script, ruleOf, known}
+use Rattle.deployment.specs.Values.{Script, ruleOf, known, defaultOf, defaultField}
 use Rattle.deployment.specs.Catalogue.{catalogueOf}
 use Rattle.deployment.specs.File.{
   Fields,
@@ -27,6 +28,7 @@ use Rattle.deployment.specs.File.{
   atEnd,
   rule-tag,
   target-tag,
+  default-tag,
   keep-tag,
   script-tag,
   head-bytes,
@@ -44,7 +46,7 @@ use Rattle.deployment.proofs.Taken.{rule-size, ValueRight, taken, taken-right}
 use Rattle.deployment.proofs.ReadBack.{read-through}
 use Rattle.deployment.proofs.Reader.{nothing-readable, refusal-row}
 use Rattle.catalogue.specs.Answers.{checking}
-use Rattle.reader.specs.Answers.{valueAt, spanFrom, spanIf, keepBytes, layoutOf, shown, fileRead}
+use Rattle.reader.specs.Answers.{valueAt, spanFrom, spanIf, keepBytes, actionBytes, layoutOf, shown, fileRead}
 use Rattle.catalogue.specs.RuleMarks.{Apart}
 use Rattle.reader.specs.Steps.{layoutSoFar, progressOf, Begun, More, headShown, stepShown, stepFrom}
 use Rattle.reader.specs.declared.FileRead.the-variants.{Accepted, Refused}
@@ -246,27 +248,30 @@ module _ (file : List ℕ) (progress : Progress) (f : Fields) (b : Begun file pr
 -- The end of the file: 3 where no target is there.
 pub ended-early : (f : Fields) → lastTag f < target-tag → (at : ℕ) → Refused (record { why = NoTarget; at = at }) ≡ shown (atEnd f at)
 unfolding lastTag tagOr atEnd shown
-ended-early f below at = go (f .catalogue) (f .initial) (f .target) (f .keep) (f .script) below
+ended-early f below at = go (f .catalogue) (f .initial) (f .target) (f .default) (f .keep) (f .script) below
   where
-    go : (c : List Rule) (i t k : Option (List ℕ)) (s : Option Script) → lastTag (fields c i t k s) < target-tag
-        → Refused (record { why = NoTarget; at = at }) ≡ shown (atEnd (fields c i t k s) at)
-    go c i none k s h = refl
-    go c i (some t) none none h = absurd (omega arith)
-    go c i (some t) (some k) none h = absurd (omega arith)
-    go c i (some t) k (some s) h = absurd (omega arith)
+    go : (c : List Rule) (i t : Option (List ℕ)) (d : Option Action) (k : Option (List ℕ)) (s : Option Script)
+        → lastTag (fields c i t d k s) < target-tag → Refused (record { why = NoTarget; at = at }) ≡ shown (atEnd (fields c i t d k s) at)
+    go c i none d k s h = refl
+    go c i (some t) none none none h = absurd (omega arith)
+    go c i (some t) (some d) none none h = absurd (omega arith)
+    go c i (some t) d (some k) none h = absurd (omega arith)
+    go c i (some t) d k (some s) h = absurd (omega arith)
 
 pub ended-late : (f : Fields) → Readable f → target-tag ≤ lastTag f → (at : ℕ) → Accepted (layoutSoFar f) ≡ shown (atEnd f at)
-unfolding lastTag tagOr tagsAfter mem atEnd shown layoutSoFar layoutOf listed keepBytes spanIf
-ended-late f r above at = go (f .catalogue) (f .initial) (f .target) (f .keep) (f .script) r above
+unfolding lastTag tagOr tagsAfter mem atEnd shown layoutSoFar layoutOf listed keepBytes actionBytes spanIf defaultOf defaultField
+ended-late f r above at = go (f .catalogue) (f .initial) (f .target) (f .default) (f .keep) (f .script) r above
   where
-    go : (c : List Rule) (i t k : Option (List ℕ)) (s : Option Script) → Readable (fields c i t k s)
-        → target-tag ≤ lastTag (fields c i t k s) → Accepted (layoutSoFar (fields c i t k s)) ≡ shown (atEnd (fields c i t k s) at)
-    go c (some i) (some t) k s r h = refl
-    go c none (some t) k s r h = absurd (not-mem target-tag (tagsAfter rule-tag) refl (r .target .0))
-    go c i none (some k) s r h = absurd (late i keep-tag (omega arith) (r .keep .0))
-    go c i none none (some s) r h = absurd (late i script-tag (omega arith) (r .script .0))
-    go c none none none none r h = absurd (omega arith)
-    go c (some i) none none none r h = absurd (omega arith)
+    go : (c : List Rule) (i t : Option (List ℕ)) (d : Option Action) (k : Option (List ℕ)) (s : Option Script) → Readable (fields c i t d k s)
+        → target-tag ≤ lastTag (fields c i t d k s) → Accepted (layoutSoFar (fields c i t d k s)) ≡ shown (atEnd (fields c i t d k s) at)
+    go c (some i) (some t) none k s r h = refl
+    go c (some i) (some t) (some d) k s r h = rw (r .default .1)
+    go c none (some t) d k s r h = absurd (not-mem target-tag (tagsAfter rule-tag) refl (r .target .0))
+    go c i none (some d) k s r h = absurd (late i default-tag (omega arith) (r .default .0))
+    go c i none none (some k) s r h = absurd (late i keep-tag (omega arith) (r .keep .0))
+    go c i none none none (some s) r h = absurd (late i script-tag (omega arith) (r .script .0))
+    go c none none none none none r h = absurd (omega arith)
+    go c (some i) none none none none r h = absurd (omega arith)
 
 -- At the start nothing has been read; at the end the fields are all there are.
 pub begun-at-start : (file : List ℕ) → Begun file (progressOf nothing) nothing

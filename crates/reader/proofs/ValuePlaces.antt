@@ -12,16 +12,28 @@ use Rattle.policy.proofs.Tests.{byTest}
 use lib.ListN.{length, take, drop, length-append, length-drop, length-map, drop-of-length-le}
 use lib.Seq.{take-all, take-nil, drop-length, take-at, drop-at, drop-append-add}
 use Rattle.policy.specs.Rule.{Rule}
+use Rattle.policy.specs.declared.Action.{Action}
 use Rattle.deployment.specs.Bytes.{bytesOf, part, chunks, joined}
-use Rattle.deployment.specs.Values.{Script, ruleOf, ruleBytes, numbersBytes, scriptBytes}
+use Rattle.deployment.specs.Values.{Script, ruleOf, ruleBytes, numbersBytes, defaultBytes, scriptBytes}
 use Rattle.deployment.specs.Catalogue.{recordCount, recordsOf, catalogueOf}
-use Rattle.deployment.specs.File.{Fields, listed, fieldBytes, ifThere, rule-tag, initial-tag, target-tag, keep-tag, script-tag}
+use Rattle.deployment.specs.File.{
+  Fields,
+  listed,
+  fieldBytes,
+  ifThere,
+  rule-tag,
+  initial-tag,
+  target-tag,
+  default-tag,
+  keep-tag,
+  script-tag,
+}
 use Rattle.deployment.specs.Properties.{Recordable, CanStand, fieldsBytes}
 use Rattle.deployment.proofs.Records.{part-between}
 use Rattle.deployment.proofs.Values.{length-rule, map-back, rule-read}
 use Rattle.deployment.proofs.Fields.{joined-append, before-rule}
 use Rattle.deployment.proofs.ReadBack.{length-field, rules-length, rule-fields-wide, ruleField}
-use Rattle.reader.specs.Answers.{valueAt, spanFrom, absent, spanIf, endOf, keepBytes, commandBytes, ruleSpan}
+use Rattle.reader.specs.Answers.{valueAt, spanFrom, absent, spanIf, endOf, keepBytes, actionBytes, commandBytes, ruleSpan}
 use Rattle.reader.specs.Steps.{layoutSoFar}
 use Rattle.reader.specs.declared.Span.{Span}
 
@@ -60,22 +72,45 @@ module _ (before : List ℕ) (tag : ℕ) where
   list-stands none after = refl
   list-stands (some l) after = value-stands before tag (numbersBytes l) after
 
+  -- one that may be absent, by its bytes
+  module _ {A : Type 0} (written : A → List ℕ) (bytes : Option A → Option (List ℕ))
+      (absent-bytes : bytes none ≡ none) (there-bytes : (a : A) → bytes (some a) ≡ some (written a)) where
+    part-stands : (o : Option A) (after : List ℕ)
+        → valueAt (spanIf (length before) (bytes o)) (before ++ (ifThere tag written o ++ after))
+        ≡ elim o [ none ↦ [] | some a ↦ written a ]
+    unfolding valueAt spanIf absent ifThere part
+    part-stands none after = rw absent-bytes
+    part-stands (some a) after = rw (there-bytes a) (value-stands before tag (written a) after)
+
+    part-ends : (o : Option A) → length (before ++ ifThere tag written o) ≡ endOf (length before) (bytes o)
+    unfolding endOf ifThere
+    part-ends none = rw absent-bytes (ap length (append-nil before))
+    part-ends (some a) =
+        rw (there-bytes a) (omega (arith, length-append before (fieldBytes tag (written a)), length-field tag (written a)))
+
+  pub action-stands : (o : Option Action) (after : List ℕ)
+      → valueAt (spanIf (length before) (actionBytes o)) (before ++ (ifThere tag defaultBytes o ++ after))
+      ≡ elim o [ none ↦ [] | some action ↦ defaultBytes action ]
+  unfolding actionBytes
+  action-stands = part-stands defaultBytes actionBytes refl (λ a. refl)
+
   pub script-stands : (o : Option Script) (after : List ℕ)
       → valueAt (spanIf (length before) (commandBytes o)) (before ++ (ifThere tag scriptBytes o ++ after))
       ≡ elim o [ none ↦ [] | some script ↦ scriptBytes script ]
-  unfolding valueAt spanIf absent commandBytes ifThere part
-  script-stands none after = refl
-  script-stands (some s) after = value-stands before tag (scriptBytes s) after
+  unfolding commandBytes
+  script-stands = part-stands scriptBytes commandBytes refl (λ s. refl)
 
   pub list-ends : (o : Option (List ℕ)) → length (before ++ ifThere tag numbersBytes o) ≡ endOf (length before) (keepBytes o)
-  unfolding endOf keepBytes ifThere
-  list-ends none = ap length (append-nil before)
-  list-ends (some l) = omega (arith, length-append before (fieldBytes tag (numbersBytes l)), length-field tag (numbersBytes l))
+  unfolding keepBytes
+  list-ends = part-ends numbersBytes keepBytes refl (λ l. refl)
+
+  pub action-ends : (o : Option Action) → length (before ++ ifThere tag defaultBytes o) ≡ endOf (length before) (actionBytes o)
+  unfolding actionBytes
+  action-ends = part-ends defaultBytes actionBytes refl (λ a. refl)
 
   pub script-ends : (o : Option Script) → length (before ++ ifThere tag scriptBytes o) ≡ endOf (length before) (commandBytes o)
-  unfolding endOf commandBytes ifThere
-  script-ends none = ap length (append-nil before)
-  script-ends (some s) = omega (arith, length-append before (fieldBytes tag (scriptBytes s)), length-field tag (scriptBytes s))
+  unfolding commandBytes
+  script-ends = part-ends scriptBytes commandBytes refl (λ s. refl)
 
 -- The pieces of fields, one after another.
 abbrev rulesPart : Fields → List ℕ
@@ -87,8 +122,11 @@ initialPart f = rulesPart f ++ ifThere initial-tag numbersBytes (f .initial)
 abbrev targetPart : Fields → List ℕ
 targetPart f = initialPart f ++ ifThere target-tag numbersBytes (f .target)
 
+abbrev defaultPart : Fields → List ℕ
+defaultPart f = targetPart f ++ ifThere default-tag defaultBytes (f .default)
+
 abbrev keepPart : Fields → List ℕ
-keepPart f = targetPart f ++ ifThere keep-tag numbersBytes (f .keep)
+keepPart f = defaultPart f ++ ifThere keep-tag numbersBytes (f .keep)
 
 module _ (f : Fields) where
   rules-end : length (rulesPart f) ≡ length (f .catalogue) * 30
@@ -100,9 +138,15 @@ module _ (f : Fields) where
   target-end : length (targetPart f) ≡ endOf (endOf (length (f .catalogue) * 30) (keepBytes (f .initial))) (keepBytes (f .target))
   target-end = rw list-ends (rw initial-end)
 
+  default-end : length (defaultPart f)
+      ≡ endOf (endOf (endOf (length (f .catalogue) * 30) (keepBytes (f .initial))) (keepBytes (f .target))) (actionBytes (f .default))
+  default-end = rw action-ends (rw target-end)
+
   keep-end : length (keepPart f)
-      ≡ endOf (endOf (endOf (length (f .catalogue) * 30) (keepBytes (f .initial))) (keepBytes (f .target))) (keepBytes (f .keep))
-  keep-end = rw list-ends (rw target-end)
+      ≡ endOf
+      (endOf (endOf (endOf (length (f .catalogue) * 30) (keepBytes (f .initial))) (keepBytes (f .target))) (actionBytes (f .default)))
+      (keepBytes (f .keep))
+  keep-end = rw list-ends (rw default-end)
 
   module _ (left : List ℕ) where
     pub initial-stands : valueAt (layoutSoFar f .initial) (fieldsBytes f ++ left) ≡ numbersBytes (listed (f .initial))
@@ -116,15 +160,26 @@ module _ (f : Fields) where
       where
         regrouped : fieldsBytes f ++ left
             ≡ initialPart f ++ (ifThere target-tag numbersBytes (f .target)
+            ++ (ifThere default-tag defaultBytes (f .default)
+            ++ (ifThere keep-tag numbersBytes (f .keep) ++ (ifThere script-tag scriptBytes (f .script) ++ left))))
+        regrouped = simp append-assoc
+
+    pub default-part-stands : valueAt (layoutSoFar f .default) (fieldsBytes f ++ left)
+        ≡ elim (f .default) [ none ↦ [] | some action ↦ defaultBytes action ]
+    unfolding layoutSoFar fieldsBytes
+    default-part-stands = rw (← target-end) (rw regrouped (action-stands (targetPart f) default-tag (f .default) _))
+      where
+        regrouped : fieldsBytes f ++ left
+            ≡ targetPart f ++ (ifThere default-tag defaultBytes (f .default)
             ++ (ifThere keep-tag numbersBytes (f .keep) ++ (ifThere script-tag scriptBytes (f .script) ++ left)))
         regrouped = simp append-assoc
 
     pub keep-stands : valueAt (layoutSoFar f .keep) (fieldsBytes f ++ left) ≡ numbersBytes (listed (f .keep))
     unfolding layoutSoFar fieldsBytes
-    keep-stands = rw (← target-end) (rw regrouped (list-stands (targetPart f) keep-tag (f .keep) _))
+    keep-stands = rw (← default-end) (rw regrouped (list-stands (defaultPart f) keep-tag (f .keep) _))
       where
         regrouped : fieldsBytes f ++ left
-            ≡ targetPart f ++ (ifThere keep-tag numbersBytes (f .keep) ++ (ifThere script-tag scriptBytes (f .script) ++ left))
+            ≡ defaultPart f ++ (ifThere keep-tag numbersBytes (f .keep) ++ (ifThere script-tag scriptBytes (f .script) ++ left))
         regrouped = simp append-assoc
 
     pub script-part-stands : valueAt (layoutSoFar f .script) (fieldsBytes f ++ left)
@@ -137,17 +192,20 @@ module _ (f : Fields) where
 
   -- the bytes so far end where the last piece does
   pub fields-end : length (fieldsBytes f)
-      ≡ endOf (endOf (endOf (endOf (length (f .catalogue) * 30) (keepBytes (f .initial))) (keepBytes (f .target))) (keepBytes (f .keep)))
+      ≡ endOf
+      (endOf
+      (endOf (endOf (endOf (length (f .catalogue) * 30) (keepBytes (f .initial))) (keepBytes (f .target))) (actionBytes (f .default)))
+      (keepBytes (f .keep)))
       (commandBytes (f .script))
   unfolding fieldsBytes
   fields-end = rw (← keep-end, ← script-ends (keepPart f) script-tag) (simp append-assoc)
 
 -- before the initial policy they are those of the rules alone
 pub rules-alone : (f : Fields) → CanStand f rule-tag → length (fieldsBytes f) ≡ length (f .catalogue) * 30
-unfolding endOf keepBytes commandBytes
+unfolding endOf keepBytes actionBytes commandBytes
 rules-alone f h =
     let none-there = before-rule f h in
-    fields-end f ∙ rw (none-there .0, none-there .1, none-there .2, none-there .3)
+    fields-end f ∙ rw (none-there .0, none-there .1, none-there .2, none-there .3, none-there .4)
 
 -- The catalogue: thirty bytes a rule, its record behind the head of its field.
 pub chunks-front : (width : ℕ) (pieces : List (List ℕ)) (count : ℕ) (rest : List ℕ)

@@ -5,7 +5,8 @@ use mathlib.Core.Option.{Option, none, some}
 use lib.ListN.{length}
 use Rattle.deployment.specs.Checked.{refusalNumbers}
 use Rattle.deployment.specs.Bytes.{part}
-use Rattle.deployment.specs.Values.{Script, rule-bytes, numbersBytes, scriptBytes}
+use Rattle.policy.specs.declared.Action.{Action}
+use Rattle.deployment.specs.Values.{Script, rule-bytes, numbersBytes, defaultBytes, defaultField, scriptBytes}
 use Rattle.deployment.specs.Contents.{Contents}
 use Rattle.deployment.specs.FieldValues.{FieldValues}
 use Rattle.deployment.specs.File.{Reading, accepted, refused, readFile, head-bytes}
@@ -39,6 +40,10 @@ unfoldable pub keepBytes : Option (List ℕ) → Option (List ℕ)
 keepBytes none = none
 keepBytes (some keep) = some (numbersBytes keep)
 
+unfoldable pub actionBytes : Option Action → Option (List ℕ)
+actionBytes none = none
+actionBytes (some action) = some (defaultBytes action)
+
 unfoldable pub commandBytes : Option Script → Option (List ℕ)
 commandBytes none = none
 commandBytes (some script) = some (scriptBytes script)
@@ -49,13 +54,16 @@ layoutOf c =
     let rules-end = length (c .catalogue) * (head-bytes + rule-bytes) in
     let initial-end = endOf rules-end (some (numbersBytes (c .initial))) in
     let target-end = endOf initial-end (some (numbersBytes (c .target))) in
-    let keep-end = endOf target-end (keepBytes (c .keep)) in
+    let default-end = endOf target-end (actionBytes (defaultField (c .default))) in
+    let keep-end = endOf default-end (keepBytes (c .keep)) in
     record {
       rules = length (c .catalogue);
       initial = spanFrom rules-end (numbersBytes (c .initial));
       target = spanFrom initial-end (numbersBytes (c .target));
+      «has_default» = there (defaultField (c .default));
+      default = spanIf target-end (actionBytes (defaultField (c .default)));
       «has_keep» = there (c .keep);
-      keep = spanIf target-end (keepBytes (c .keep));
+      keep = spanIf default-end (keepBytes (c .keep));
       «has_script» = there (c .script);
       script = spanIf keep-end (commandBytes (c .script));
     }
@@ -72,7 +80,8 @@ rulesGathered (suc k) file = rulesGathered k file ++ valueAt (ruleSpan k) file
 unfoldable pub valuesGathered : Layout → List ℕ → FieldValues
 valuesGathered layout file =
     valuesGiven (rulesGathered (layout .rules) file) (valueAt (layout .initial) file) (valueAt (layout .target) file)
-    (layout .«has_keep») (valueAt (layout .keep) file) (layout .«has_script») (valueAt (layout .script) file)
+    (layout .«has_default») (valueAt (layout .default) file) (layout .«has_keep») (valueAt (layout .keep) file)
+    (layout .«has_script») (valueAt (layout .script) file)
 
 -- a reading as the reader shows it: contents by the places of their values
 unfoldable pub shown : Reading → FileRead

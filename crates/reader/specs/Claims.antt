@@ -9,7 +9,19 @@ use mathlib.Core.Option.{none, some}
 use lib.ListN.{length, take}
 use Rattle.policy.specs.Rule.{Rule}
 use Rattle.deployment.specs.Checked.{refusalNumbers}
-use Rattle.deployment.specs.Values.{Script, rule-bytes, ruleBytes, numbersOf, numbersBytes, scriptOf, scriptBytes}
+use Rattle.deployment.specs.Values.{
+  Script,
+  rule-bytes,
+  default-bytes,
+  ruleBytes,
+  numbersOf,
+  numbersBytes,
+  defaultBytes,
+  defaultField,
+  scriptOf,
+  scriptBytes,
+}
+use Rattle.policy.specs.declared.Action.{Action}
 use Rattle.deployment.specs.Catalogue.{catalogueOf}
 use Rattle.deployment.specs.Contents.{Contents}
 use Rattle.deployment.specs.File.{accepted, readFile, readToJudge, fileOf, head-bytes}
@@ -31,6 +43,11 @@ pub record ListStands (file : List ℕ) (span : Span) (l : List ℕ) : Type 0 wh
   pub numbers : numbersOf (valueAt span file) ≡ l
   pub size : span .size ≡ 2 * length l
 
+-- the part at a place is a default
+pub record DefaultStands (file : List ℕ) (span : Span) (action : Action) : Type 0 where
+  pub bytes : valueAt span file ≡ defaultBytes action
+  pub size : span .size ≡ default-bytes
+
 -- the part at a place is a script
 pub record ScriptStands (file : List ℕ) (span : Span) (s : Script) : Type 0 where
   pub bytes : valueAt span file ≡ scriptBytes s
@@ -49,6 +66,8 @@ pub record Stands (file : List ℕ) (layout : Layout) (c : Contents) : Type 0 wh
   pub among : take (layout .rules) (catalogueOf head-bytes file) ≡ c .catalogue
   pub initial : ListStands file (layout .initial) (c .initial)
   pub target : ListStands file (layout .target) (c .target)
+  pub has-default : layout .«has_default» ≡ there (defaultField (c .default))
+  pub default : IfThere (DefaultStands file (layout .default)) (defaultField (c .default))
   pub has-keep : layout .«has_keep» ≡ there (c .keep)
   pub keep : IfThere (ListStands file (layout .keep)) (c .keep)
   pub has-script : layout .«has_script» ≡ there (c .script)

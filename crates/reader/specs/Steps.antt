@@ -7,12 +7,14 @@ use mathlib.Core.Option.{some}
 use lib.ListN.{length, drop}
 use Rattle.policy.specs.Rule.{Rule}
 use Rattle.deployment.specs.Checked.{Checked, good, bad, _>>=_}
-use Rattle.deployment.specs.Values.{Script, rule-bytes, ruleBytes, numbersBytes, scriptBytes}
+use Rattle.policy.specs.declared.Action.{Action}
+use Rattle.deployment.specs.Values.{Script, rule-bytes, ruleBytes, numbersBytes, defaultBytes, scriptBytes}
 use Rattle.deployment.specs.File.{
   Fields,
   setCatalogue,
   setInitial,
   setTarget,
+  setDefault,
   setKeep,
   setScript,
   lastTag,
@@ -23,12 +25,13 @@ use Rattle.deployment.specs.File.{
   rule-tag,
   initial-tag,
   target-tag,
+  default-tag,
   keep-tag,
   script-tag,
 }
 use Rattle.deployment.specs.Properties.{CanStand, Readable, fieldsBytes}
 use Rattle.values.specs.Answers.{there}
-use Rattle.reader.specs.Answers.{keepBytes, commandBytes, spanIf, endOf}
+use Rattle.reader.specs.Answers.{keepBytes, actionBytes, commandBytes, spanIf, endOf}
 use Rattle.reader.specs.declared.Layout.{Layout}
 use Rattle.reader.specs.declared.file.Progress.{Progress}
 use Rattle.reader.specs.declared.file.Head.{Head}
@@ -42,13 +45,16 @@ layoutSoFar f =
     let rules-end = length (f .catalogue) * (head-bytes + rule-bytes) in
     let initial-end = endOf rules-end (keepBytes (f .initial)) in
     let target-end = endOf initial-end (keepBytes (f .target)) in
-    let keep-end = endOf target-end (keepBytes (f .keep)) in
+    let default-end = endOf target-end (actionBytes (f .default)) in
+    let keep-end = endOf default-end (keepBytes (f .keep)) in
     record {
       rules = length (f .catalogue);
       initial = spanIf rules-end (keepBytes (f .initial));
       target = spanIf initial-end (keepBytes (f .target));
+      «has_default» = there (f .default);
+      default = spanIf target-end (actionBytes (f .default));
       «has_keep» = there (f .keep);
-      keep = spanIf target-end (keepBytes (f .keep));
+      keep = spanIf default-end (keepBytes (f .keep));
       «has_script» = there (f .script);
       script = spanIf keep-end (commandBytes (f .script));
     }
@@ -68,6 +74,7 @@ pub data More (f : Fields) : ℕ → List ℕ → Fields → Type 0 where
   a-rule : (rule : Rule) → CanStand f rule-tag → More f rule-tag (ruleBytes rule) (setCatalogue f (f .catalogue ++ (rule ∷ [])))
   an-initial : (i : List ℕ) → CanStand f initial-tag → More f initial-tag (numbersBytes i) (setInitial f (some i))
   a-target : (t : List ℕ) → CanStand f target-tag → More f target-tag (numbersBytes t) (setTarget f (some t))
+  a-default : (d : Action) → CanStand f default-tag → More f default-tag (defaultBytes d) (setDefault f (some d))
   a-keep : (k : List ℕ) → CanStand f keep-tag → More f keep-tag (numbersBytes k) (setKeep f (some k))
   a-script : (s : Script) → CanStand f script-tag → More f script-tag (scriptBytes s) (setScript f (some s))
 

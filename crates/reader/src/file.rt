@@ -25,6 +25,8 @@ use catalogue::rule::apart;
 use catalogue::rule::rule_tested;
 use deployment::Refusal;
 use deployment::Why;
+use format::DEFAULT_BYTES;
+use format::DEFAULT_TAG;
 use format::HEAD_BYTES;
 use format::INITIAL_TAG;
 use format::KEEP_TAG;
@@ -34,6 +36,7 @@ use format::SCRIPT_TAG;
 use format::TARGET_TAG;
 use format::two_at;
 use policy::MOST_RULES;
+use values::default_checked;
 use values::keep_checked;
 use values::list_fits;
 use values::policy_checked;
@@ -82,7 +85,8 @@ fn can_stand(last: u8, tag: u8) -> bool
     match last {
         RULE_TAG => tag == RULE_TAG || tag == INITIAL_TAG,
         INITIAL_TAG => tag == TARGET_TAG,
-        TARGET_TAG => tag == KEEP_TAG || tag == SCRIPT_TAG,
+        TARGET_TAG => tag == DEFAULT_TAG || tag == KEEP_TAG || tag == SCRIPT_TAG,
+        DEFAULT_TAG => tag == KEEP_TAG || tag == SCRIPT_TAG,
         KEEP_TAG => tag == SCRIPT_TAG,
         _ => false,
     }
@@ -97,6 +101,9 @@ fn length_fits(tag: u8, size: usize) -> bool
     }
     if tag == SCRIPT_TAG {
         return script_fits(size);
+    }
+    if tag == DEFAULT_TAG {
+        return size == DEFAULT_BYTES;
     }
     list_fits(size)
 }
@@ -135,7 +142,7 @@ fn field_head(file: &[u8], at: usize, last: u8, rules: usize) -> Head
     Head::Field(tag, size)
 }
 
-// The tests of a value, by its tag: 5, 6; or 8, 9; or 10; or 11.
+// The tests of a value, by its tag: 5, 6; or 8, 9; or 50; or 10; or 11.
 fn checked(file: &[u8], progress: Progress, differing: usize, tag: u8, bytes: &[u8]) -> Checking
     requires { ⌜ (tag ≡ rule-tag → progress .layout .rules < differing
         → known (ruleOf (now bytes)) (take (progress .layout .rules) (catalogueOf 3 (now file))) ≡ false) ⌝ }
@@ -152,6 +159,9 @@ fn checked(file: &[u8], progress: Progress, differing: usize, tag: u8, bytes: &[
             bytes,
             differing,
         );
+    }
+    if tag == DEFAULT_TAG {
+        return default_checked(bytes);
     }
     if tag == KEEP_TAG {
         return keep_checked(
@@ -180,6 +190,9 @@ fn placed(layout: Layout, tag: u8, span: Span) -> Layout
         next.initial = span;
     } else if tag == TARGET_TAG {
         next.target = span;
+    } else if tag == DEFAULT_TAG {
+        next.has_default = true;
+        next.default = span;
     } else if tag == KEEP_TAG {
         next.has_keep = true;
         next.keep = span;
@@ -243,6 +256,8 @@ fn nothing_read() -> Progress
             rules: 0,
             initial: nowhere,
             target: nowhere,
+            has_default: false,
+            default: nowhere,
             has_keep: false,
             keep: nowhere,
             has_script: false,

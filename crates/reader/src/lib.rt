@@ -15,6 +15,8 @@ pub struct Layout {
     pub rules: usize,
     pub initial: Span,
     pub target: Span,
+    pub has_default: bool,
+    pub default: Span,
     pub has_keep: bool,
     pub keep: Span,
     pub has_script: bool,

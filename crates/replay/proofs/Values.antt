@@ -7,7 +7,7 @@ use mathlib.Core.List.{List}
 use mathlib.Core.Option.{Option, some}
 use lib.ListN.{length, take, replicate}
 use lib.Seq.{take-all}
-use Rattle.policy.specs.Claims.{Policy}
+use Rattle.policy.specs.Claims.{Admitted}
 use Rattle.policy.specs.Replay.{replay}
 use Rattle.deployment.specs.Checked.{good}
 use Rattle.deployment.specs.Values.{Script, numbersOf, scriptOf, listFits, scriptFits}
@@ -27,7 +27,7 @@ use Rattle.replay.specs.declared.Ending.the-variants.{Turned}
 
 -- what an accepted value is
 abbrev IsList : ℕ → List ℕ → List ℕ → Type 0
-IsList size value policy = (take 1024 (numbersOf value) ≡ policy) × Policy size policy
+IsList size value policy = (take 1024 (numbersOf value) ≡ policy) × Admitted size policy
 
 policy-list : (size : ℕ) (value : List ℕ) → Each (IsList size value) (λ why. Unit {0}) (policyValue size value)
 unfolding policyValue
@@ -65,7 +65,7 @@ module _ (size : ℕ) (initial script : List ℕ) where
         let (policy, is) = passed (policyValue (min size 1024) initial) accepted in
         rw (is, replayed) (rw (failed (scriptValue (some script)) why e))
 
-    pub accepted-policy : Policy (min size 1024) (take 1024 (numbersOf initial))
+    pub accepted-policy : Admitted (min size 1024) (take 1024 (numbersOf initial))
     accepted-policy =
         let (policy, is) = passed (policyValue (min size 1024) initial) accepted in
         let listed : IsList (min size 1024) initial policy = rw is at (policy-list (min size 1024) initial) in
@@ -89,6 +89,6 @@ module _ (size : ℕ) (initial script : List ℕ) where
 
 -- the state that a replay starts from
 pub starts-sound : (size : ℕ) {top : ℕ} {l m n places : List ℕ} → top ≡ min size 1024 → l ≡ m → m ≡ n → places ≡ renumbered 1 m (replicate 1024 0)
-    → Policy (min size 1024) n → Sound top l places
+    → Admitted (min size 1024) n → Sound top l places
 starts-sound size at is listed numbered policy =
     rw (at, numbered, is, listed) (record { small = omega arith; policy = policy; says = says-numbered _ (policy .distinct) })

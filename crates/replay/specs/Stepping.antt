@@ -2,7 +2,7 @@
 use Prim.Native.Nat.{ℕ, suc, min, _-_, _≤_}
 use mathlib.Core.List.{List}
 use lib.ListN.{length, drop, getD, set}
-use Rattle.policy.specs.Claims.{Policy}
+use Rattle.policy.specs.Claims.{Admitted}
 use Rattle.policy.specs.Command.{ruleAt}
 use Rattle.policy.specs.Policy.{most-rules}
 use Rattle.policy.specs.declared.Command.{Command}
@@ -66,5 +66,5 @@ leftBy s = record {
 -- differing rules of a catalogue of at most 1,024, and an array that says where they stand
 pub record Sound (size : ℕ) (l places : List ℕ) : Type 0 where
   pub small : size ≤ most-rules
-  pub policy : Policy size l
+  pub policy : Admitted size l
   pub says : Says places l

@@ -12,7 +12,7 @@ use lib.ListN.{length, take, drop, getD, length-append, length-map, length-rever
 use lib.Seq.{sets, take-suc, drop-append-add, append-snoc, length-take-le, getD-take, take-length}
 use Rattle.policy.specs.Lists.{mem, after}
 use Rattle.policy.specs.Properties.{In}
-use Rattle.policy.specs.Claims.{Policy}
+use Rattle.policy.specs.Claims.{Admitted}
 use Rattle.policy.specs.Command.{coded, lifted, moved}
 use Rattle.policy.specs.InsertDeleteMove.{Standing, waiting, ahead, takeWaiting, secondStage}
 use Rattle.policy.specs.declared.Command.{Command}
@@ -40,7 +40,7 @@ unfolding ahead until
 ahead-until target r [] = refl
 ahead-until target r (x ∷ done) = ap (λ (n : ℕ). cond (mem x (after r target)) 0 (suc n)) (ahead-until target r done)
 
-module _ (target places : List ℕ) (policy : Policy 1024 target) (says : Says places target) (r : ℕ) (there : In r target) where
+module _ (target places : List ℕ) (policy : Admitted 1024 target) (says : Says places target) (r : ℕ) (there : In r target) where
   later : after r target ≡ drop (placeIn r target) target
   later = place-after 0 r target (omega (arith, place-present r target there))
 
@@ -59,7 +59,7 @@ module _ (target places : List ℕ) (policy : Policy 1024 target) (says : Says p
       ahead-until target r done ∙ ap (λ (test : ℕ → Bool). until test done) (fun-ext (λ x. sym (above-after x)))
 
 -- One waiting rule.
-module _ (target places : List ℕ) (policy : Policy 1024 target) (says : Says places target) (list next : Running) (r i sent : ℕ) (field written : List ℕ)
+module _ (target places : List ℕ) (policy : Admitted 1024 target) (says : Says places target) (list next : Running) (r i sent : ℕ) (field written : List ℕ)
     (long : length field ≡ 5124) (room : sent < 1024) (small : r < 1024) (u done : List ℕ) (is : view list ≡ u ++ (r ∷ done)) (at : i ≡ suc (length u)) where
   -- "One that is not in the target is deleted."
   pub did-delete : getD places r 0 ≡ 0 → view next ≡ lifted i (view list) → written ≡ sets field (4 + 5 * sent) (codedBytes (coded (DelPlace i)))
@@ -197,7 +197,7 @@ module _ (target : List ℕ) (marks : List Bool) (first old : List ℕ) (start :
           )
 
       -- a waiting rule is settled
-      pub pass-waiting : (to : List ℕ) (place r : ℕ) (next : Running) (written : List ℕ) → Policy 1024 target → Says to target
+      pub pass-waiting : (to : List ℕ) (place r : ℕ) (next : Running) (written : List ℕ) → Admitted 1024 target → Says to target
           → place ≡ suc i → r ≡ next-rule → Lowered to list place r sent field next written
           → Pass target marks first old start next (sent + 1) written i
       pass-waiting to place r next written policy says at is-rule lowered =

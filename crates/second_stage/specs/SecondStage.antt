@@ -10,7 +10,7 @@ use Rattle.policy.specs.Command.{placed}
 use Rattle.policy.specs.InsertDeleteMove.{ahead}
 use Rattle.policy.specs.declared.Command.{Command}
 use Rattle.policy.specs.declared.Command.the-variants.{DelPlace, Mov}
-use Rattle.policy.specs.Claims.{Policy}
+use Rattle.policy.specs.Claims.{Admitted}
 use Rattle.running.specs.declared.Running.{Running}
 use Rattle.running.specs.Running.{view}
 use Rattle.places.specs.Places.{Says}
@@ -26,5 +26,5 @@ settledDone target r done = cond (mem r target) (placed (suc (ahead target r don
 -- what is done for it, whatever the target is whose places are given: the list that follows, and what is put into the field
 abbrev pub Lowered : List ℕ → Running → ℕ → ℕ → ℕ → List ℕ → Running → List ℕ → Type 0
 Lowered to list i r sent field next written =
-    (target u done : List ℕ) → Policy most-rules target → Says to target → view list ≡ u ++ (r ∷ done) → i ≡ suc (length u)
+    (target u done : List ℕ) → Admitted most-rules target → Says to target → view list ≡ u ++ (r ∷ done) → i ≡ suc (length u)
     → (view next ≡ u ++ settledDone target r done) × Sent field sent (settling target i r done ∷ []) written

@@ -6,7 +6,7 @@ ghost use Prim.Native.Nat.{ℕ, _+_, _≤_, _<_};
 ghost use lib.Dec.{ltb};
 ghost use lib.ListN.{length, drop, getD};
 ghost use Rattle.policy.specs.InsertDeleteMove.{secondStage};
-ghost use Rattle.policy.specs.Claims.{Policy};
+ghost use Rattle.policy.specs.Claims.{Admitted};
 ghost use Rattle.policy.specs.Policy.{most-rules};
 ghost use Rattle.policy.specs.Properties.{In};
 ghost use Rattle.running.specs.Running.{view};
@@ -58,7 +58,7 @@ fn settle(list: Running, i: usize, r: u16, to: &[u16], sent: u16, field: &mut [u
 
 // "Second stage. Take the waiting rules from last place to first." Answers how many commands are sent then.
 pub fn stage_two(stage: Stage, target: Running, field: &mut [u8]) -> u16
-    requires { ⌜ Policy most-rules (view target) × ((r : ℕ) → In r (view (stage .list)) → r < most-rules)
+    requires { ⌜ Admitted most-rules (view target) × ((r : ℕ) → In r (view (stage .list)) → r < most-rules)
         × (stage .sent + length (secondStage (view target) (frontOf stage)) ≤ most-planned) × (length (now field) ≡ field-bytes) ⌝ }
     ensures { λ n. ⌜ (n ≡ stage .sent + length (secondStage (view target) (frontOf stage)))
         × Sent (now (field .entry)) (stage .sent) (secondStage (view target) (frontOf stage)) (now (field .exit)) ⌝ }

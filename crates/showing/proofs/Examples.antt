@@ -4,24 +4,24 @@ use Rattle.deployment.specs.Bytes.{bytesOf}
 use Rattle.lines.specs.Text.{text, digits, decimal, spaced, spacedAll, named, commandText, lineText, linesText}
 use Rattle.rule_lines.specs.Text.{dots, valueText, rangeText, actionText, endText, endsText, ruleText, rulesText, catalogueText}
 use Rattle.rule_lines.specs.Examples.{range, web, high-ports, rest}
-use Rattle.showing.specs.Text.{numbersText, listText, policiesText, keepText, scriptText, showText}
+use Rattle.showing.specs.Text.{numbersText, listText, policiesText, defaultText, keepText, scriptText, showText}
 use Rattle.showing.specs.Examples.{with-both, appended, empty, no-command}
 use Rattle.showing.specs.Examples.{WithBothShown, AppendedShown, EmptyShown, NoCommandShown}
 
 pub with-both-shown : WithBothShown
 unfolding range web high-ports rest with-both bytesOf text digits decimal spaced spacedAll named commandText lineText linesText
-    dots valueText rangeText actionText endText endsText ruleText rulesText catalogueText numbersText listText policiesText keepText scriptText showText
+    dots valueText rangeText actionText endText endsText ruleText rulesText catalogueText numbersText listText policiesText defaultText keepText scriptText showText
 with-both-shown = refl
 
 pub appended-shown : AppendedShown
 unfolding range rest appended bytesOf text digits decimal spaced spacedAll named commandText lineText linesText
-    dots valueText rangeText actionText endText endsText ruleText rulesText catalogueText numbersText listText policiesText keepText scriptText showText
+    dots valueText rangeText actionText endText endsText ruleText rulesText catalogueText numbersText listText policiesText defaultText keepText scriptText showText
 appended-shown = refl
 
 pub empty-shown : EmptyShown
-unfolding empty text digits decimal spaced named rulesText catalogueText numbersText listText policiesText keepText scriptText showText
+unfolding empty text digits decimal spaced named rulesText catalogueText numbersText listText policiesText defaultText keepText scriptText showText
 empty-shown = refl
 
 pub no-command-shown : NoCommandShown
-unfolding no-command text digits decimal spaced named linesText rulesText catalogueText numbersText listText policiesText keepText scriptText showText
+unfolding no-command text digits decimal spaced named linesText rulesText catalogueText numbersText listText policiesText defaultText keepText scriptText showText
 no-command-shown = refl

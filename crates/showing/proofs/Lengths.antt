@@ -6,12 +6,14 @@ use mathlib.Core.Path.{refl}
 use mathlib.Core.List.{List, [], _∷_, List·Memᴰ, List·Memᴰ·head, List·Memᴰ·tail}
 use mathlib.Core.Option.{Option, none, some}
 use lib.ListN.{length, length-append}
+use Rattle.policy.specs.declared.Action.{Action}
+use Rattle.policy.specs.declared.Action.the-variants.{Deny, Permit}
 use Rattle.deployment.specs.Values.{Script}
 use Rattle.deployment.specs.Properties.{Scripted, IfThere}
 use Rattle.deployment.proofs.Scripts.{type-small}
 use Rattle.lines.specs.Text.{text, spaced, spacedAll, named}
 use Rattle.lines.proofs.Lengths.{length-spaced, two-bytes-short, command-short, lines-short}
-use Rattle.showing.specs.Text.{numbersText, listText, keepText, scriptText}
+use Rattle.showing.specs.Text.{numbersText, listText, defaultText, keepText, scriptText}
 
 -- Lists.
 spaced-short : (numbers : List ℕ) → ((n : ℕ) → List·Memᴰ n numbers → n < 65536) → length (spacedAll numbers) ≤ 6 * length numbers
@@ -41,6 +43,11 @@ pub list-short : (numbers : List ℕ) → length numbers ≤ 512 → ((n : ℕ) 
 unfolding listText text
 list-short numbers few small =
     simp length-append (omega (arith, two-bytes-short (length numbers) (omega arith), numbers-short numbers small))
+
+pub default-short : (action : Action) → length (defaultText action) ≤ 15
+unfolding defaultText text
+default-short Deny = omega arith
+default-short Permit = omega arith
 
 pub keep-short : (keep : Option (List ℕ)) → IfThere (λ numbers. length (listText numbers) ≤ 3079) keep → length (keepText keep) ≤ 3083
 unfolding keepText text

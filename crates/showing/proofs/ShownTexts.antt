@@ -14,18 +14,20 @@ use Rattle.deployment.specs.File.{accepted, refused, readFile}
 use Rattle.deployment.specs.Properties.{IfThere, Valid}
 use Rattle.deployment.specs.declared.Refusal.{Refusal}
 use Rattle.policy.specs.Claims.{Keepable}
+use Rattle.policy.specs.declared.Action.the-variants.{Deny, Permit}
 use Rattle.values.specs.Answers.{there}
 use Rattle.reader.specs.Answers.{valueAt}
 use Rattle.reader.specs.Claims.{ListStands, ScriptStands, Stands}
 use Rattle.reader.specs.declared.Layout.{Layout}
 use Rattle.reader.specs.declared.Span.{Span}
+use Rattle.reader.proofs.FileAnswers.{default-placed}
 use Rattle.replay.specs.Answers.{Readable}
 use Rattle.lines.specs.Text.{text, refusedText}
 use Rattle.rule_lines.specs.Text.{catalogueText}
 use Rattle.rule_lines.proofs.Lengths.{catalogue-short}
-use Rattle.showing.specs.Text.{listText, policiesText, keepText, scriptText, showText, showPrinted}
+use Rattle.showing.specs.Text.{listText, policiesText, defaultText, keepText, scriptText, showText, showPrinted}
 use Rattle.showing.specs.Printing.{most-shown}
-use Rattle.showing.proofs.Lengths.{list-short, keep-short, script-short}
+use Rattle.showing.proofs.Lengths.{list-short, default-short, keep-short, script-short}
 
 pub printed-refusal : (file : List ℕ) (refusal : Refusal) → readFile file ≡ refused refusal → showPrinted file ≡ refusedText refusal
 unfolding showPrinted
@@ -76,6 +78,7 @@ shown-short c valid =
       catalogue-short (c .catalogue) rules (valid .catalogue .recordable),
       list-short (c .initial) (valid .initial .few) initial,
       list-short (c .target) (valid .target .few) target,
+      default-short (c .default),
       keep-short (c .keep) (keep-lists (length (c .catalogue)) (c .initial) (c .target) (c .keep) (valid .initial .few) initial (valid .keep)),
       script-short (c .script) (valid .script),
     ))
@@ -85,8 +88,9 @@ module _ {file : List ℕ} {layout : Layout} {c : Contents} (stands : Stands fil
   parts-shown :
       catalogueText (take (layout .rules) (catalogueOf 3 file))
       ++ (policiesText (numbersOf (valueAt (layout .initial) file)) (numbersOf (valueAt (layout .target) file))
+      ++ (defaultText (cond (layout .«has_default») Permit Deny)
       ++ (keepText (cond (layout .«has_keep») (some (numbersOf (valueAt (layout .keep) file))) none)
-      ++ scriptText (cond (layout .«has_script») (scriptOf (valueAt (layout .script) file)) none)))
+      ++ scriptText (cond (layout .«has_script») (scriptOf (valueAt (layout .script) file)) none))))
       ≡ showText c
   unfolding showText
   parts-shown =
@@ -94,6 +98,7 @@ module _ {file : List ℕ} {layout : Layout} {c : Contents} (stands : Stands fil
         stands .among,
         stands .initial .numbers,
         stands .target .numbers,
+        default-placed file layout c stands,
         stands .has-keep,
         keep-is file (layout .keep) (c .keep) (stands .keep),
         stands .has-script,
@@ -104,8 +109,9 @@ module _ {file : List ℕ} {layout : Layout} {c : Contents} (stands : Stands fil
     pub parts-printed :
         catalogueText (take (layout .rules) (catalogueOf 3 file))
         ++ (policiesText (numbersOf (valueAt (layout .initial) file)) (numbersOf (valueAt (layout .target) file))
+        ++ (defaultText (cond (layout .«has_default») Permit Deny)
         ++ (keepText (cond (layout .«has_keep») (some (numbersOf (valueAt (layout .keep) file))) none)
-        ++ scriptText (cond (layout .«has_script») (scriptOf (valueAt (layout .script) file)) none)))
+        ++ scriptText (cond (layout .«has_script») (scriptOf (valueAt (layout .script) file)) none))))
         ≡ showPrinted file
     parts-printed = parts-shown ∙ sym (printed-contents file c is)
 

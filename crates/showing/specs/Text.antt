@@ -4,6 +4,8 @@ use Prim.Native.Nat.{ℕ}
 use mathlib.Core.List.{List, [], _∷_, _++_}
 use mathlib.Core.Option.{Option, none, some}
 use lib.ListN.{length}
+use Rattle.policy.specs.declared.Action.{Action}
+use Rattle.policy.specs.declared.Action.the-variants.{Deny, Permit}
 use Rattle.deployment.specs.Values.{Script}
 use Rattle.deployment.specs.Contents.{Contents}
 use Rattle.deployment.specs.File.{accepted, refused, readFile}
@@ -22,6 +24,11 @@ listText numbers = spaced (length numbers) ++ (text "\n" ++ numbersText numbers)
 -- both policies, as `initial 4` and its numbers, `target 4` and its numbers
 unfoldable pub policiesText : List ℕ → List ℕ → List ℕ
 policiesText initial target = text "initial" ++ (listText initial ++ (text "target" ++ listText target))
+
+-- their default, as `default deny`
+unfoldable pub defaultText : Action → List ℕ
+defaultText Deny = text "default deny\n"
+defaultText Permit = text "default permit\n"
 
 -- the keep list, as `keep 2` and its numbers, or `keep absent`
 unfoldable pub keepText : Option (List ℕ) → List ℕ
@@ -42,8 +49,9 @@ unfoldable pub showText : Contents → List ℕ
 showText c =
     catalogueText (c .catalogue)
     ++ (policiesText (c .initial) (c .target)
+    ++ (defaultText (c .default)
     ++ (keepText (c .keep)
-    ++ scriptText (c .script)))
+    ++ scriptText (c .script))))
 
 -- what the program prints for the bytes of its standard input
 unfoldable pub showPrinted : List ℕ → List ℕ

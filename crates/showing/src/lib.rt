@@ -11,6 +11,7 @@ use deployment::Refusal;
 use deployment::Why;
 use deployment::Written;
 use lines::outcomes::put_refused;
+use lists::put_default;
 use lists::put_keep;
 use lists::put_policies;
 use lists::put_script;
@@ -60,13 +61,14 @@ fn put_shown(file: &[u8], place: &mut [u8]) -> usize
     }
 }
 
-// The catalogue, both policies, the keep list and the script of an accepted file.
+// The catalogue, both policies and their default, the keep list and the script of an accepted file.
 fn put_contents(file: &[u8], layout: Layout, place: &mut [u8]) -> usize
     requires { ⌜ Accepted layout ≡ fileRead (now file) ⌝ }
     ensures { λ next. ⌜ Whole most-shown (now (place .entry)) (showPrinted (now (file .entry))) (now (place .exit)) next ⌝ }
 {
     let mut next = put_catalogue(place, 0, file, layout.rules);
     next = put_policies(place, next, file, layout.initial, layout.target);
+    next = put_default(place, next, layout.has_default);
     next = put_keep(place, next, layout.has_keep, file, layout.keep);
     put_script(place, next, layout.has_script, file, layout.script)
 }

@@ -1,4 +1,4 @@
-// Policies, keep list and script: how many, and what.
+// Policies, default, keep list and script: how many, and what.
 
 ghost use mathlib.Core.Path.{_≡_};
 ghost use mathlib.Core.Bool.{true, cond};
@@ -10,7 +10,8 @@ ghost use Rattle.replay.specs.Answers.{Readable};
 ghost use lib.ListN.{drop, getD};
 ghost use Rattle.lines.specs.Text.{spacedAll};
 ghost use Rattle.lines.specs.Printing.{Puts};
-ghost use Rattle.showing.specs.Text.{numbersText, listText, policiesText, keepText, scriptText};
+ghost use Rattle.policy.specs.declared.Action.the-variants.{Deny, Permit};
+ghost use Rattle.showing.specs.Text.{numbersText, listText, policiesText, defaultText, keepText, scriptText};
 use commands::commands;
 use format::listed;
 use format::number_at;
@@ -70,6 +71,16 @@ pub fn put_policies(place: &mut [u8], at: usize, file: &[u8], initial: Span, tar
 {
     let next = put_list(place, at, b"initial", file, initial);
     put_list(place, next, b"target", file, target)
+}
+
+// The default of both policies: permit where a default is there.
+pub fn put_default(place: &mut [u8], at: usize, has: bool) -> usize
+    ensures { λ next. ⌜ Puts (now (place .entry)) at (defaultText (cond has Permit Deny)) (now (place .exit)) next ⌝ }
+{
+    if has {
+        return put_word(place, at, b"default permit\n");
+    }
+    put_word(place, at, b"default deny\n")
 }
 
 // The keep list, or that it is absent.

@@ -53,6 +53,9 @@ layoutTold l =
     ∷ l .initial .size
     ∷ l .target .start
     ∷ l .target .size
+    ∷ flag (l .«has_default»)
+    ∷ l .default .start
+    ∷ l .default .size
     ∷ flag (l .«has_keep»)
     ∷ l .keep .start
     ∷ l .keep .size

@@ -39,7 +39,7 @@ use reader::Layout;
 const DONE: u32 = 0;
 
 // The most values that belong to a number: those of a file that was read.
-const MOST_VALUES: usize = 11;
+const MOST_VALUES: usize = 14;
 
 // Stores the values in the first words of the answer, as many as have room.
 fn store(answer: &mut [u64], values: &[u64])
@@ -98,6 +98,9 @@ fn tell_layout(layout: Layout, answer: &mut [u64]) -> u32
         layout.initial.size as u64,
         layout.target.start as u64,
         layout.target.size as u64,
+        layout.has_default as u64,
+        layout.default.start as u64,
+        layout.default.size as u64,
         layout.has_keep as u64,
         layout.keep.start as u64,
         layout.keep.size as u64,

@@ -6,11 +6,20 @@ use Rattle.values.proofs.lists.values_checked.Reads as values-checked
 use Rattle.values.proofs.list_fits.Reads as list-fits
 use Rattle.values.proofs.script_fits.Reads as script-fits
 use Rattle.values.proofs.policy_checked.Reads as policy-checked
+use Rattle.values.proofs.default_checked.Reads as default-checked
+use Rattle.values.proofs.lists.default_if_there.Reads as default-if-there
 use Rattle.values.proofs.keep_checked.Reads as keep-checked
 use Rattle.values.proofs.script_checked.Reads as script-checked
 
 pub one-policy : (κ : _) (a : _) (r s : Checking) (e f : _) → policy-checked.Post κ a r e → policy-checked.Post κ a s f → r ≡ s
 one-policy κ a r s e f p q = p ∙ sym q
+
+pub one-default : (κ : _) (a : _) (r s : Checking) (e f : _) → default-checked.Post κ a r e → default-checked.Post κ a s f → r ≡ s
+one-default κ a r s e f p q = p ∙ sym q
+
+pub one-default-if-there : (κ : _) (a : _) (r s : Checking) (e f : _) → default-if-there.Post κ a r e → default-if-there.Post κ a s f
+    → r ≡ s
+one-default-if-there κ a r s e f p q = p ∙ sym q
 
 pub one-keep : (κ : _) (a : _) (r s : Checking) (e f : _) → keep-checked.Post κ a r e → keep-checked.Post κ a s f → r ≡ s
 one-keep κ a r s e f p q = p ∙ sym q

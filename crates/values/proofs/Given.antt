@@ -1,33 +1,39 @@
 -- Field values tested one after another: the first that is turned away decides, and what passes is read as its tests leave it:
--- the rules as many as their bytes hold, each policy as the numbers of its value. Assumes nothing.
+-- the rules as many as their bytes hold, each policy as the numbers of its value, a default as permit. Assumes nothing.
 use Prim.Native.Nat.{ℕ, _+_, _*_, _/_, _%_, _≤_, min}
 use native.Mathlib.Nat.{min-eq-left}
 use native.Mathlib.Omega.{arith}
 use mathlib.Core.Path.{_≡_, refl, _∙_}
+use mathlib.Core.Bool.{Bool, true, false, cond}
 use mathlib.Core.List.{List, [], _∷_, _++_}
+use mathlib.Core.Option.{some}
 use borrow.Author.Tests.{leb-true}
 use lib.Dec.{eqb, leb}
 use lib.ListN.{length, length-append}
 use Rattle.policy.specs.Policy.{most-rules}
 use Rattle.policy.specs.Rule.{Rule}
+use Rattle.policy.specs.declared.Action.{Action}
+use Rattle.policy.specs.declared.Action.the-variants.{Deny, Permit}
 use Rattle.deployment.specs.Checked.{Checked, good, bad, _>>=_}
 use Rattle.deployment.specs.Bytes.{chunks}
-use Rattle.deployment.specs.Values.{rule-bytes, numbersOf, listFits}
+use Rattle.deployment.specs.Values.{rule-bytes, default-bytes, numbersOf, listFits}
 use Rattle.deployment.specs.Contents.{ruleRead}
 use Rattle.deployment.specs.FieldValues.{
   FieldValues,
   rulesRead,
   catalogueValue,
   policyValue,
+  defaultValue,
   keepValue,
   scriptValue,
   valuesRead,
 }
 use Rattle.deployment.specs.declared.Why.{Why}
 use Rattle.deployment.proofs.Bytes.{length-chunks}
-use Rattle.deployment.proofs.Tests.{tested, policy-tested}
+use Rattle.deployment.proofs.Tests.{tested, policy-tested, default-tested}
 use Rattle.catalogue.specs.Answers.{checking}
 use Rattle.catalogue.specs.declared.Checking.{Checking}
+use Rattle.values.specs.Answers.{given}
 use Rattle.catalogue.specs.declared.Checking.the-variants.{Good, Bad}
 
 -- What an answer says of the tests.
@@ -90,6 +96,17 @@ policy-passed size value e =
     tested Right (listFits (length value)) (λ odd. bad-good)
     (λ fits. policy-tested Right size value (λ outside. bad-good) (λ inside twice. bad-good) (λ sound passes. refl)) (found .1)
 
+-- a default that passes is permit where it is there, and deny where it is absent
+pub default-passed : (has : Bool) (value : List ℕ) → Good ≡ checking (defaultValue (given has value))
+    → defaultValue (given has value) ≡ good (cond has Permit Deny)
+unfolding given defaultValue
+default-passed false value e = refl
+default-passed true value e =
+    let found = passed (defaultValue (some value)) e in
+    let Right : Checked Action → Type 0 = λ read. read ≡ good (found .0) → read ≡ good Permit in
+    tested Right (eqb (length value) default-bytes) (λ long. bad-good)
+    (λ fits. default-tested Right value (λ wrong. bad-good) (λ is passes. refl)) (found .1)
+
 -- whether tests pass does not hang on what is made of the value
 pub checking-last : {A B : Type 0} (read : Checked A) (next : A → B) → checking read ≡ checking (_>>=_ read (λ a. good (next a)))
 unfolding checking
@@ -126,25 +143,38 @@ module _ (v : FieldValues) (rules : Rules (v .rules)) where
     bad-target why e = rw (rules .read, good-policy (v .initial) initial, bad-policy (v .target) why e)
 
     module _ (target : Answers Good (v .target)) where
-      pub bad-keep : (why : Why) → Bad why ≡ checking (keepValue (numbersOf (v .initial)) (numbersOf (v .target)) (v .keep))
-          → Bad why ≡ checking (valuesRead v)
+      pub bad-default : (why : Why) → Bad why ≡ checking (defaultValue (v .default)) → Bad why ≡ checking (valuesRead v)
       unfolding valuesRead checking
-      bad-keep why e =
+      bad-default why e =
           rw (
             rules .read,
             good-policy (v .initial) initial,
             good-policy (v .target) target,
-            failed (keepValue (numbersOf (v .initial)) (numbersOf (v .target)) (v .keep)) why e,
+            failed (defaultValue (v .default)) why e,
           )
 
-      pub by-script : (answer : Checking) → Good ≡ checking (keepValue (numbersOf (v .initial)) (numbersOf (v .target)) (v .keep))
-          → answer ≡ checking (scriptValue (v .script)) → answer ≡ checking (valuesRead v)
-      unfolding valuesRead
-      by-script answer keep e =
-          rw (
-            rules .read,
-            good-policy (v .initial) initial,
-            good-policy (v .target) target,
-            passed (keepValue (numbersOf (v .initial)) (numbersOf (v .target)) (v .keep)) keep .1,
-          )
-          (e ∙ checking-last (scriptValue (v .script)) _)
+      module _ (default : Good ≡ checking (defaultValue (v .default))) where
+        pub bad-keep : (why : Why) → Bad why ≡ checking (keepValue (numbersOf (v .initial)) (numbersOf (v .target)) (v .keep))
+            → Bad why ≡ checking (valuesRead v)
+        unfolding valuesRead checking
+        bad-keep why e =
+            rw (
+              rules .read,
+              good-policy (v .initial) initial,
+              good-policy (v .target) target,
+              passed (defaultValue (v .default)) default .1,
+              failed (keepValue (numbersOf (v .initial)) (numbersOf (v .target)) (v .keep)) why e,
+            )
+
+        pub by-script : (answer : Checking) → Good ≡ checking (keepValue (numbersOf (v .initial)) (numbersOf (v .target)) (v .keep))
+            → answer ≡ checking (scriptValue (v .script)) → answer ≡ checking (valuesRead v)
+        unfolding valuesRead
+        by-script answer keep e =
+            rw (
+              rules .read,
+              good-policy (v .initial) initial,
+              good-policy (v .target) target,
+              passed (defaultValue (v .default)) default .1,
+              passed (keepValue (numbersOf (v .initial)) (numbersOf (v .target)) (v .keep)) keep .1,
+            )
+            (e ∙ checking-last (scriptValue (v .script)) _)

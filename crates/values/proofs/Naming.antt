@@ -9,7 +9,7 @@ use lib.Dec.{ltb}
 use lib.ListN.{length, getD}
 use Rattle.policy.specs.Lists.{all, differ}
 use Rattle.policy.specs.Properties.{In, Distinct}
-use Rattle.policy.specs.Claims.{Policy}
+use Rattle.policy.specs.Claims.{Admitted}
 use Rattle.policy.proofs.Tests.{byTest}
 use Rattle.policy.proofs.Lists.{all-in}
 use Rattle.running.specs.Naming.{named}
@@ -36,7 +36,7 @@ naming-numbers-differ Once Once e = refl
 
 module _ (size : ℕ) (l : List ℕ) where
   -- no policy names a number outside the catalogue
-  policy-inside : Policy size l → ¬ NamesOutside size l
+  policy-inside : Admitted size l → ¬ NamesOutside size l
   policy-inside policy (r, h, out) = omega (arith, policy .inside r h)
 
   names-outside : NamesOutside size l → NamesByNumber size l Outside
@@ -55,7 +55,7 @@ module _ (size : ℕ) (l : List ℕ) where
     once = (λ e. absurd (omega (arith, ap first e)), λ policy. absurd (twice (policy .distinct)));
   }
 
-  names-once : ¬ NamesOutside size l → Policy size l → NamesByNumber size l Once
+  names-once : ¬ NamesOutside size l → Admitted size l → NamesByNumber size l Once
   unfolding namingNumbers first
   names-once inside policy = record {
     outside = (λ e. absurd (omega (arith, ap first e)), λ out. absurd (inside out));

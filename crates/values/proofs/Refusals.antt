@@ -31,8 +31,10 @@ refused-check v number at = rw (checking-numbers (valuesRead v)) (refused-values
 -- the values that a call is given
 abbrev values : (κ : _) → ArgsD signature κ → FieldValues
 values κ a =
-    valuesGiven (now (a .0)) (now (a .1 .0)) (now (a .1 .1 .0)) (a .1 .1 .1 .0) (now (a .1 .1 .1 .1 .0)) (a .1 .1 .1 .1 .1 .0)
-    (now (a .1 .1 .1 .1 .1 .1 .0))
+    let behind = a .1 .1 .1 in
+    let last = behind .1 .1 in
+    valuesGiven (now (a .0)) (now (a .1 .0)) (now (a .1 .1 .0)) (behind .0) (now (behind .1 .0)) (last .0) (now (last .1 .0)) (last .1 .1 .0)
+    (now (last .1 .1 .1 .0))
 
 pub values-checked-answers-the-row : (κ : _) (a : _) (r : Checking) (e : _) → values-checked.Post κ a r e → (number at : ℕ)
     → (checkingNumbers r ≡ number ∷ at ∷ []) ↔ (ValuesFail (values κ a) number × (at ≡ 0))

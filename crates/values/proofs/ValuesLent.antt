@@ -6,7 +6,7 @@ use mathlib.Core.Path.{_≡_, sym, _∙_, ap}
 use mathlib.Core.Bool.{Bool, true, false}
 use mathlib.Core.List.{List, map}
 use lib.ListN.{length}
-use Rattle.policy.specs.Claims.{Policy}
+use Rattle.policy.specs.Claims.{Admitted}
 use Rattle.policy.specs.Rule.{Rule}
 use Rattle.deployment.specs.Bytes.{joined}
 use Rattle.deployment.specs.Values.{ruleBytes, numbersOf, numbersBytes}
@@ -31,7 +31,7 @@ given-bytes false value b = tt
 rules-counted : (catalogue : List Rule) (rules : List ℕ) → joined (map ruleBytes catalogue) ≡ rules → length rules / 27 ≡ length catalogue
 rules-counted catalogue rules e = omega (arith, ap length e, length-rules catalogue)
 
-policy-back : (c : Contents) → Valid c → (policy value : List ℕ) → Policy (length (c .catalogue)) policy → numbersBytes policy ≡ value
+policy-back : (c : Contents) → Valid c → (policy value : List ℕ) → Admitted (length (c .catalogue)) policy → numbersBytes policy ≡ value
     → numbersOf value ≡ policy
 policy-back c valid policy value sound e =
     ap numbersOf (sym e) ∙ policy-numbers (length (c .catalogue)) policy (valid .catalogue .few) sound
@@ -41,6 +41,8 @@ pub record Lent : Type 0 where
   pub rules : List ℕ
   pub initial : List ℕ
   pub target : List ℕ
+  pub has-default : Bool
+  pub default : List ℕ
   pub has-keep : Bool
   pub keep : List ℕ
   pub has-script : Bool
@@ -48,7 +50,9 @@ pub record Lent : Type 0 where
 
 module _ (lent : Lent) where
   abbrev pub values : FieldValues
-  values = valuesGiven (lent .rules) (lent .initial) (lent .target) (lent .has-keep) (lent .keep) (lent .has-script) (lent .script)
+  values =
+      valuesGiven (lent .rules) (lent .initial) (lent .target) (lent .has-default) (lent .default) (lent .has-keep) (lent .keep)
+      (lent .has-script) (lent .script)
 
   pub values-refused : (why : Why) → Bad why ≡ checking (valuesRead values) → readValues values ≡ refused (record { why = why; at = 0 })
   unfolding readValues atZero
@@ -64,15 +68,16 @@ module _ (lent : Lent) where
     pub initial : numbersOf (lent .initial) ≡ contents .initial
     pub target : numbersOf (lent .target) ≡ contents .target
 
-  pub values-accepted : AreBytes (lent .rules) → AreBytes (lent .initial) → AreBytes (lent .target) → AreBytes (lent .keep) → AreBytes (lent .script)
-      → Good ≡ checking (valuesRead values) → LentRead
+  pub values-accepted : AreBytes (lent .rules) → AreBytes (lent .initial) → AreBytes (lent .target) → AreBytes (lent .default) → AreBytes (lent .keep)
+      → AreBytes (lent .script) → Good ≡ checking (valuesRead values) → LentRead
   unfolding readValues atZero valuesGiven valuesOf
-  values-accepted rules initial target keep script e =
+  values-accepted rules initial target default keep script e =
       let are : AreValues values =
       record {
         rules = rules;
         initial = initial;
         target = target;
+        default = given-bytes (lent .has-default) (lent .default) default;
         keep = given-bytes (lent .has-keep) (lent .keep) keep;
         script = given-bytes (lent .has-script) (lent .script) script;
       } in

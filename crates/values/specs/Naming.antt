@@ -5,7 +5,7 @@ use mathlib.Core.Path.{_≡_}
 use mathlib.Core.Logic.{_↔_}
 use mathlib.Core.List.{List, [], _∷_}
 use Rattle.policy.specs.Properties.{Distinct}
-use Rattle.policy.specs.Claims.{Policy}
+use Rattle.policy.specs.Claims.{Admitted}
 use Rattle.running.specs.Naming.{named}
 use Rattle.running.specs.declared.Naming.{Naming}
 use Rattle.running.specs.declared.Naming.the-variants as naming
@@ -27,7 +27,7 @@ NamingNumbersDiffer = (n m : Naming) → namingNumbers n ≡ namingNumbers m →
 pub record NamesByNumber (size : ℕ) (l : List ℕ) (n : Naming) : Type 0 where
   pub outside : (namingNumbers n ≡ 8 ∷ []) ↔ NamesOutside size l
   pub twice : (namingNumbers n ≡ 9 ∷ []) ↔ (¬ NamesOutside size l × ¬ Distinct l)
-  pub once : (namingNumbers n ≡ []) ↔ Policy size l
+  pub once : (namingNumbers n ≡ []) ↔ Admitted size l
 
 abbrev pub NamedByNumber : Type 0
 NamedByNumber = (size : ℕ) (l : List ℕ) → NamesByNumber size l (named size l)

@@ -1,4 +1,4 @@
-// Tests of field values: policies, keep lists, scripts (here), and all values of a deployment one after another (lists.rt). Entries that take
+// Tests of field values: policies, defaults, keep lists, scripts (here), and all values of a deployment one after another (lists.rt). Entries that take
 // lists and the file reader share them.
 
 ghost use mathlib.Core.Path.{_≡_};
@@ -8,7 +8,7 @@ ghost use Rattle.policy.specs.Policy.{most-rules};
 ghost use Rattle.policy.specs.Lists.{occurs};
 ghost use Rattle.deployment.specs.Bytes.{number, part};
 ghost use Rattle.deployment.specs.Values.{numbersOf, listFits, scriptFits, everyCommand, commandChunks};
-ghost use Rattle.deployment.specs.FieldValues.{policyValue, keepValue, scriptValue};
+ghost use Rattle.deployment.specs.FieldValues.{policyValue, defaultValue, keepValue, scriptValue};
 ghost use Rattle.catalogue.specs.Answers.{checking};
 ghost use Rattle.values.specs.Answers.{there};
 use catalogue::Checking;
@@ -17,7 +17,9 @@ use commands::commands;
 use commands::is_type;
 use deployment::Decoded;
 use deployment::Why;
+use format::DEFAULT_BYTES;
 use format::LIST_BYTES;
+use format::PERMIT;
 use format::SCRIPT_BYTES;
 use format::list_of;
 use format::listed;
@@ -53,6 +55,19 @@ pub fn policy_checked(value: &[u8], size: usize) -> Checking
         Naming::Twice => Checking::Bad(Why::Twice),
         Naming::Once => Checking::Good,
     }
+}
+
+// A default: 4, 50.
+pub fn default_checked(value: &[u8]) -> Checking
+    ensures { λ c. ⌜ c ≡ checking (defaultValue (some (now (value .entry)))) ⌝ }
+{
+    if value.len() != DEFAULT_BYTES {
+        return Checking::Bad(Why::Length);
+    }
+    if value[0] != PERMIT {
+        return Checking::Bad(Why::Default);
+    }
+    Checking::Good
 }
 
 // Whether the numbers of `keep` occur in the same order in `list`.

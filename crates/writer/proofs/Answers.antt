@@ -6,5 +6,5 @@ use Rattle.deployment.proofs.Lent.{same-left}
 use Rattle.writer.proofs.write_into.Reads as write-into
 
 pub one-file-written : (κ : _) (a : _) (r s : Written) (e f : _) → write-into.Post κ a r e → write-into.Post κ a s f
-    → (r ≡ s) × (now (e .1 .1 .1 .1 .1 .1 .1 .0) ≡ now (f .1 .1 .1 .1 .1 .1 .1 .0))
+    → (r ≡ s) × (now (e .1 .1 .1 .1 .1 .1 .1 .1 .1 .0) ≡ now (f .1 .1 .1 .1 .1 .1 .1 .1 .1 .0))
 one-file-written κ a r s e f p q = same-left p q

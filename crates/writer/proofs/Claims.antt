@@ -8,8 +8,8 @@ use mathlib.Core.Option.{Option, none, some}
 use lib.ListN.{length}
 use Rattle.policy.specs.Rule.{Rule}
 use Rattle.deployment.specs.Bytes.{joined}
-use Rattle.deployment.specs.Values.{ruleBytes, numbersBytes, scriptBytes}
-use Rattle.deployment.specs.File.{rule-tag, keep-tag, script-tag, fieldBytes, ifThere, fileOf}
+use Rattle.deployment.specs.Values.{ruleBytes, numbersBytes, defaultBytes, defaultField, scriptBytes}
+use Rattle.deployment.specs.File.{rule-tag, default-tag, keep-tag, script-tag, fieldBytes, ifThere, fileOf}
 use Rattle.deployment.specs.FieldValues.{FieldValues}
 use Rattle.deployment.specs.Claims.{valuesOf}
 use Rattle.deployment.proofs.Values.{none-some, length-rules, rules-apart}
@@ -41,21 +41,22 @@ there-file tag written (some a) true value e = let same : written a ≡ value = 
 
 pub given-is-file : GivenIsFile
 unfolding valuesOf valuesGiven fileOf listsBytes givenBytes
-given-is-file rules initial target has-keep keep has-script script c e =
+given-is-file rules initial target has-default default has-keep keep has-script script c e =
     rw (
       rules-file (c .catalogue) rules (ap (λ (v : FieldValues). v .rules) e),
       ap (λ (v : FieldValues). v .initial) e,
       ap (λ (v : FieldValues). v .target) e,
+      there-file default-tag defaultBytes (defaultField (c .default)) has-default default (ap (λ (v : FieldValues). v .default) e),
       there-file keep-tag numbersBytes (c .keep) has-keep keep (ap (λ (v : FieldValues). v .keep) e),
       there-file script-tag scriptBytes (c .script) has-script script (ap (λ (v : FieldValues). v .script) e),
     )
     (simp append-assoc)
 
 pub given-fits : GivenFits
-given-fits rules initial target has-keep keep has-script script c valid e =
+given-fits rules initial target has-default default has-keep keep has-script script c valid e =
     omega (
       arith,
       valid-fits c valid,
-      ap length (given-is-file rules initial target has-keep keep has-script script c e),
-      length-given rules initial target has-keep keep has-script script,
+      ap length (given-is-file rules initial target has-default default has-keep keep has-script script c e),
+      length-given rules initial target has-default default has-keep keep has-script script,
     )

@@ -5,7 +5,7 @@ use mathlib.Core.List.{List, [], _++_, map}
 use lib.ListN.{length}
 use Rattle.deployment.specs.Bytes.{chunks, joined}
 use Rattle.deployment.specs.Values.{rule-bytes}
-use Rattle.deployment.specs.File.{rule-tag, initial-tag, target-tag, keep-tag, script-tag, head-bytes, fieldBytes}
+use Rattle.deployment.specs.File.{rule-tag, initial-tag, target-tag, default-tag, keep-tag, script-tag, head-bytes, fieldBytes}
 
 -- the fields of the first rules of a field value, as many as are asked for
 unfoldable pub rulesBytes : ℕ → List ℕ → List ℕ
@@ -27,12 +27,15 @@ abbrev pub listsNeeded : ℕ → ℕ → ℕ → ℕ
 listsNeeded rules initial target =
     rules / rule-bytes * (head-bytes + rule-bytes) + (head-bytes + initial) + (head-bytes + target)
 
--- and for a keep list and a script, where they are there
-unfoldable pub givenBytes : List ℕ → List ℕ → List ℕ → Bool → List ℕ → Bool → List ℕ → List ℕ
-givenBytes rules initial target has-keep keep has-script script =
-    listsBytes rules initial target ++ fieldIf has-keep keep-tag keep ++ fieldIf has-script script-tag script
+-- and for a default, a keep list and a script, where they are there
+unfoldable pub givenBytes : List ℕ → List ℕ → List ℕ → Bool → List ℕ → Bool → List ℕ → Bool → List ℕ → List ℕ
+givenBytes rules initial target has-default default has-keep keep has-script script =
+    listsBytes rules initial target
+    ++ fieldIf has-default default-tag default
+    ++ fieldIf has-keep keep-tag keep
+    ++ fieldIf has-script script-tag script
 
 -- 13: the "bytes needed" for values of these lengths
-abbrev pub needed : ℕ → ℕ → ℕ → Bool → ℕ → Bool → ℕ → ℕ
-needed rules initial target has-keep keep has-script script =
-    listsNeeded rules initial target + bytesIf has-keep keep + bytesIf has-script script
+abbrev pub needed : ℕ → ℕ → ℕ → Bool → ℕ → Bool → ℕ → Bool → ℕ → ℕ
+needed rules initial target has-default default has-keep keep has-script script =
+    listsNeeded rules initial target + bytesIf has-default default + bytesIf has-keep keep + bytesIf has-script script

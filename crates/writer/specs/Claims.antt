@@ -14,13 +14,15 @@ use Rattle.writer.specs.Answers.{givenBytes, needed}
 
 abbrev pub GivenIsFile : Type 0
 GivenIsFile =
-    (rules initial target : List ℕ) (has-keep : Bool) (keep : List ℕ) (has-script : Bool) (script : List ℕ) (c : Contents)
-    → valuesOf c ≡ valuesGiven rules initial target has-keep keep has-script script
-    → givenBytes rules initial target has-keep keep has-script script ≡ fileOf c
+    (rules initial target : List ℕ) (has-default : Bool) (default : List ℕ) (has-keep : Bool) (keep : List ℕ) (has-script : Bool) (script : List ℕ)
+    (c : Contents)
+    → valuesOf c ≡ valuesGiven rules initial target has-default default has-keep keep has-script script
+    → givenBytes rules initial target has-default default has-keep keep has-script script ≡ fileOf c
 
--- A file of accepted contents has at most 44,045 bytes, and so do the values that it is written of.
+-- A file of accepted contents has at most 44,049 bytes, and so do the values that it is written of.
 abbrev pub GivenFits : Type 0
 GivenFits =
-    (rules initial target : List ℕ) (has-keep : Bool) (keep : List ℕ) (has-script : Bool) (script : List ℕ) (c : Contents) → Valid c
-    → valuesOf c ≡ valuesGiven rules initial target has-keep keep has-script script
-    → needed (length rules) (length initial) (length target) has-keep (length keep) has-script (length script) ≤ 44045
+    (rules initial target : List ℕ) (has-default : Bool) (default : List ℕ) (has-keep : Bool) (keep : List ℕ) (has-script : Bool) (script : List ℕ)
+    (c : Contents) → Valid c
+    → valuesOf c ≡ valuesGiven rules initial target has-default default has-keep keep has-script script
+    → needed (length rules) (length initial) (length target) has-default (length default) has-keep (length keep) has-script (length script) ≤ 44049

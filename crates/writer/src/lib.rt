@@ -10,6 +10,7 @@ ghost use Rattle.writer.specs.Answers.{rulesBytes, listsBytes, givenByte
 use deployment::Refusal;
 use deployment::Why;
 use deployment::Written;
+use format::DEFAULT_TAG;
 use format::HEAD_BYTES;
 use format::INITIAL_TAG;
 use format::KEEP_TAG;
@@ -19,12 +20,14 @@ use format::SCRIPT_TAG;
 use format::TARGET_TAG;
 use format::store;
 
-// Writes the file of accepted field values into the first bytes of `place`; the keep list and the script are there if their `has_` says so.
-// 13 where the place is too small: it then keeps its bytes.
+// Writes the file of accepted field values into the first bytes of `place`; the default, the keep list and the script are
+// there if their `has_` says so. 13 where the place is too small: it then keeps its bytes.
 pub fn write_into(
     rules: &[u8],
     initial: &[u8],
     target: &[u8],
+    has_default: bool,
+    default: &[u8],
     has_keep: bool,
     keep: &[u8],
     has_script: bool,
@@ -32,12 +35,14 @@ pub fn write_into(
     place: &mut [u8],
 ) -> Written
     requires { ⌜
-        needed (length (now rules)) (length (now initial)) (length (now target)) «has_keep» (length (now keep)) «has_script» (length (now script)) < 65536
+        needed (length (now rules)) (length (now initial)) (length (now target)) «has_default» (length (now default)) «has_keep» (length (now keep))
+        «has_script» (length (now script)) < 65536
         ⌝ }
     ensures { λ r. ⌜
         leftBy r (now (place .exit))
         ≡ writing
-        (givenBytes (now (rules .entry)) (now (initial .entry)) (now (target .entry)) «has_keep» (now (keep .entry)) «has_script» (now (script .entry)))
+        (givenBytes (now (rules .entry)) (now (initial .entry)) (now (target .entry)) «has_default» (now (default .entry)) «has_keep» (now (keep .entry))
+        «has_script» (now (script .entry)))
         (now (place .entry))
         ⌝ }
 {
@@ -45,6 +50,8 @@ pub fn write_into(
         rules.len(),
         initial.len(),
         target.len(),
+        has_default,
+        default.len(),
         has_keep,
         keep.len(),
         has_script,
@@ -57,6 +64,7 @@ pub fn write_into(
         });
     }
     let mut at = put_lists(place, rules, initial, target);
+    at = put_if(place, at, has_default, DEFAULT_TAG, default);
     at = put_if(place, at, has_keep, KEEP_TAG, keep);
     at = put_if(place, at, has_script, SCRIPT_TAG, script);
     Written::Bytes(at)
@@ -134,17 +142,20 @@ fn bytes_needed(
     rules: usize,
     initial: usize,
     target: usize,
+    has_default: bool,
+    default: usize,
     has_keep: bool,
     keep: usize,
     has_script: bool,
     script: usize,
 ) -> usize
-    requires { ⌜ needed rules initial target «has_keep» keep «has_script» script < 65536 ⌝ }
-    ensures { λ n. ⌜ n ≡ needed rules initial target «has_keep» keep «has_script» script ⌝ }
+    requires { ⌜ needed rules initial target «has_default» default «has_keep» keep «has_script» script < 65536 ⌝ }
+    ensures { λ n. ⌜ n ≡ needed rules initial target «has_default» default «has_keep» keep «has_script» script ⌝ }
 {
     let lists = HEAD_BYTES + initial + HEAD_BYTES + target;
     rules / RULE_BYTES * (HEAD_BYTES + RULE_BYTES)
         + lists
+        + bytes_if(has_default, default)
         + bytes_if(has_keep, keep)
         + bytes_if(has_script, script)
 }

@@ -1,6 +1,6 @@
 // Runs the writer on rows of cases and prints its answer to each: the refusal, or how many bytes were written, a checksum of them and
 // how they are read back; and whether every other byte is as it was. Each argument names a file with one row. A case: two bytes for the
-// size of the place, one that fills it, two that say whether there is a keep list and a script; then the five values, themselves a row.
+// size of the place, one that fills it, three that say whether there is a default, a keep list and a script; then the six values, a row.
 
 ghost use mathlib.Core.Path.{_≡_};
 ghost use Prim.Native.Nat.{_≤_};
@@ -20,7 +20,7 @@ use reader::Span;
 use reader::file::read;
 use reader::file::value;
 
-const HEAD_BYTES: usize = 5;
+const HEAD_BYTES: usize = 6;
 
 fn filled(byte: u8) -> [u8; 65536]
     ensures { λ r. ⌜ 65536 ≡ length r ⌝ }
@@ -69,19 +69,23 @@ fn print_answer(answer: Written, room: &[u8], byte: u8) {
 
 // What the writer answers to a case when the first bytes of the room are the place.
 fn tried(case: &[u8], room: &mut [u8]) -> Written
-    requires { ⌜ (5 ≤ length (now case)) × (65536 ≤ length (now room)) ⌝ }
+    requires { ⌜ (6 ≤ length (now case)) × (65536 ≤ length (now room)) ⌝ }
 {
     let size = two(case[0], case[1]) as usize;
-    let has_keep = case[3] == 1;
-    let has_script = case[4] == 1;
+    let has_default = case[3] == 1;
+    let has_keep = case[4] == 1;
+    let has_script = case[5] == 1;
     let initial = next_place(case, HEAD_BYTES);
     let target = next_place(case, initial);
-    let keep = next_place(case, target);
+    let default = next_place(case, target);
+    let keep = next_place(case, default);
     let script = next_place(case, keep);
     write(
         bytes_at(case, HEAD_BYTES),
         bytes_at(case, initial),
         bytes_at(case, target),
+        has_default,
+        bytes_at(case, default),
         has_keep,
         bytes_at(case, keep),
         has_script,

@@ -5,7 +5,7 @@ pub const LENT_BYTE: u8 = 0xa5;
 pub const LENT_WORD: u64 = 0xa5a5_a5a5_a5a5_a5a5;
 
 /// The most values that belong to a number.
-const WORDS: usize = 11;
+const WORDS: usize = 14;
 
 /// What one entry answers: the number of document 01, or 0 if it did its work;
 /// the lent words, of which the first hold its values; every byte of the lent place.

@@ -3,6 +3,7 @@
 use super::answer::{Answer, Answers, LENT_BYTE};
 use super::input::Input;
 use crate::library;
+use crate::policy::PolicyValues;
 
 /// No text is longer.
 const TEXT_BYTES: usize = 262_144;
@@ -47,25 +48,26 @@ fn over_files(input: &Input) -> Vec<Answer> {
 
 fn over_values(input: &Input) -> Vec<Answer> {
     let (values, made, script) = (&input.made.values(), &input.made, input.lent_script());
-    let (rules, initial) = (values.rules, values.initial);
+    let both = [values.initial, values.target];
+    let policies = both.map(|list| PolicyValues { rules: values.rules, list, default: values.default });
     let mut all = vec![
         Answer::lend("check values", 0, |_, words| library::check(values, words)),
         Answer::lend("write values", made.file_room, |place, words| library::write(values, place, words)),
         Answer::lend("replay values", input.rooms.replay_values, |place, words| {
-            library::replay(rules, initial, script, place, words)
+            library::replay(values, script, place, words)
         }),
         Answer::lend("plan 1 values", made.plan_room, |place, words| library::plan(1, values, place, words)),
         Answer::lend("plan 2 values", made.plan_room, |place, words| library::plan(2, values, place, words)),
         Answer::lend("judge values", 0, |_, words| library::judge(values, script, words)),
     ];
     for flow in &input.flows {
-        for list in [initial, values.target] {
-            all.push(Answer::lend("decide values", 0, |_, words| library::decide(rules, list, flow, words)));
+        for policy in &policies {
+            all.push(Answer::lend("decide values", 0, |_, words| library::decide(policy, flow, words)));
         }
     }
-    for list in [initial, values.target] {
+    for policy in &policies {
         all.push(Answer::lend("decide flows values", input.rooms.flows, |place, words| {
-            library::decide_flows(rules, list, &input.flow_bytes, place, words)
+            library::decide_flows(policy, &input.flow_bytes, place, words)
         }));
     }
     all

@@ -8,7 +8,7 @@ use crate::format::{list_value, numbers, Refusal};
 use crate::inputs::RoomMaker;
 use crate::judge::judge;
 use crate::plan::plan_contents;
-use crate::policy::{self, Decision};
+use crate::policy::{self, Decision, Policy, PolicyValues};
 use crate::replay::{self, RunningList};
 use crate::rule::Flow;
 use crate::show::show_text;
@@ -39,7 +39,7 @@ fn places(file: &[u8], contents: &Contents) -> Vec<usize> {
     let mut all = vec![contents.rules.len()];
     all.extend(span(file, contents.initial));
     all.extend(span(file, contents.target));
-    for part in [contents.keep, contents.script] {
+    for part in [contents.default, contents.keep, contents.script] {
         all.push(usize::from(part.is_some()));
         all.extend(part.map_or([0, 0], |part| span(file, part)));
     }
@@ -51,10 +51,7 @@ fn decision(decision: Decision) -> Vec<usize> {
 }
 
 fn decide_file(file: &[u8], of_target: bool, flow: &Flow) -> Outcome {
-    done(file::read(file), |contents| {
-        let list = if of_target { contents.target } else { contents.initial };
-        decision(policy::decide(&contents.rules, list, flow))
-    })
+    done(file::read(file), |contents| decision(policy::decide(&contents.rules, Policy::of(&contents, of_target), flow)))
 }
 
 fn written(bytes: Result<usize, Refusal>) -> Outcome {
@@ -148,6 +145,8 @@ fn over_files(input: &Input) -> Vec<Answer> {
 
 fn over_values(input: &Input) -> Vec<Answer> {
     let (values, made) = (&input.made.values(), &input.made);
+    let both = [values.initial, values.target];
+    let policies = both.map(|list| PolicyValues { rules: values.rules, list, default: values.default });
     let mut all = vec![
         lend("check values", 0, |_| done(file::check(values), |_| vec![])),
         lend("write values", made.file_room, |place| written(file::write(values, place))),
@@ -157,14 +156,14 @@ fn over_values(input: &Input) -> Vec<Answer> {
         lend("judge values", 0, |_| judged(scripted(values, input.lent_script()))),
     ];
     for flow in &input.flows {
-        for list in [values.initial, values.target] {
-            let decided = policy::decide_values(values.rules, list, flow);
+        for policy in &policies {
+            let decided = policy::decide_values(policy, flow);
             all.push(lend("decide values", 0, |_| done(decided, decision)));
         }
     }
-    all.extend([values.initial, values.target].map(|list| {
+    all.extend(policies.map(|policy| {
         lend("decide flows values", input.rooms.flows, |place| {
-            written(policy::decide_flows_values(values.rules, list, &input.flow_bytes, place))
+            written(policy::decide_flows_values(&policy, &input.flow_bytes, place))
         })
     }));
     all

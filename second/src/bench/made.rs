@@ -79,7 +79,7 @@ impl Made {
 
     pub fn values(&self) -> Values<'_> {
         let Made { rules, initial, target, script } = self;
-        Values { rules, initial, target, keep: None, script: script.as_deref() }
+        Values { rules, initial, target, default: None, keep: None, script: script.as_deref() }
     }
 
     /// A file over so many rules, with all fields and each as long as can be:
@@ -91,6 +91,7 @@ impl Made {
             rules: made.rules.chunks_exact(RULE_BYTES).collect(),
             initial: &made.initial,
             target: &made.target,
+            default: Some(&[1]),
             keep: Some(&made.initial),
             script: script.as_deref(),
         })

@@ -17,21 +17,26 @@ pub fn policies(rules: u16) -> Vec<Vec<u16>> {
     all
 }
 
-/// What each rule does to one flow: nothing, or permit it, or deny it.
-pub type Pattern = Vec<Option<bool>>;
-
-pub fn patterns(rules: u16) -> Vec<Pattern> {
-    let mut all = vec![Pattern::new()];
-    for _ in 0..rules {
-        let longer = |pattern: &Pattern| [None, Some(false), Some(true)].map(|what| [&pattern[..], &[what]].concat());
-        all = all.iter().flat_map(longer).collect();
-    }
-    all
+/// What each rule does to one flow: nothing, or permit it, or deny it; and whether the default permits.
+pub struct Pattern {
+    rules: Vec<Option<bool>>,
+    default: bool,
 }
 
-/// Whether a list permits the pattern's flow.
+/// All patterns over so many rules, with both defaults.
+pub fn patterns(rules: u16) -> Vec<Pattern> {
+    let mut all = vec![Vec::new()];
+    for _ in 0..rules {
+        let longer = |list: &Vec<_>| [None, Some(false), Some(true)].map(|what| [&list[..], &[what]].concat());
+        all = all.iter().flat_map(longer).collect();
+    }
+    let with_both = |rules: Vec<Option<bool>>| [false, true].map(|default| Pattern { rules: rules.clone(), default });
+    all.into_iter().flat_map(with_both).collect()
+}
+
+/// Whether a list permits the pattern's flow under the pattern's default.
 pub fn permits(list: &[u16], pattern: &Pattern) -> bool {
-    list.iter().find_map(|&rule| pattern[usize::from(rule)]).unwrap_or(false)
+    list.iter().find_map(|&rule| pattern.rules[usize::from(rule)]).unwrap_or(pattern.default)
 }
 
 fn place_of(rule: u16, list: &[u16]) -> Option<usize> {
@@ -128,11 +133,13 @@ pub fn verdict(initial: &[u16], target: &[u16], commands: &[Command], rules: u16
     vec![if lists.iter().all(full) { 32 } else { 31 }]
 }
 
-/// No list permits a flow that both policies deny.
-pub fn opens_no_hole(lists: &[Vec<u16>], patterns: &[Pattern]) -> bool {
+/// Under default deny no list permits a flow that both policies deny; under
+/// default permit no list denies one that both permit.
+pub fn keeps_the_default(lists: &[Vec<u16>], patterns: &[Pattern]) -> bool {
     let (initial, target) = (&lists[0], &lists[lists.len() - 1]);
     patterns.iter().all(|pattern| {
-        permits(initial, pattern) || permits(target, pattern) || !lists.iter().any(|list| permits(list, pattern))
+        let as_default = |list: &Vec<u16>| permits(list, pattern) == pattern.default;
+        !(as_default(initial) && as_default(target)) || lists.iter().all(as_default)
     })
 }
 

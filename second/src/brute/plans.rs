@@ -2,7 +2,7 @@
 
 use super::held::{must, Held};
 use super::literal::{
-    changes_once, in_order, lists_of, opens_no_hole, own_choice, patterns, policies, verdict, Pattern,
+    changes_once, in_order, keeps_the_default, lists_of, own_choice, patterns, policies, verdict, Pattern,
 };
 use crate::commands::Command;
 use crate::file::{check, Values};
@@ -46,6 +46,7 @@ impl Bench {
             rules: &self.catalogue,
             initial: &list_value(initial),
             target: &list_value(target),
+            default: None,
             keep: Some(&list_value(keep)),
             script: None,
         };
@@ -73,7 +74,10 @@ impl Bench {
         case.must(count == initial.len() + target.len() - 2 * case.plan.kept, "count of type 1")?;
         case.must(count == shortest, "a shorter type 1 script exists")?;
         case.must(verdict == 31 || verdict == 32, "verdict of type 1")?;
-        case.must(opens_no_hole(&lists, &self.patterns), "a flow that both deny is permitted")
+        case.must(
+            keeps_the_default(&lists, &self.patterns),
+            "a flow that both decide as the default is decided otherwise",
+        )
     }
 
     fn test_type_2(&self, initial: &[u16], target: &[u16], keep: Option<&[u16]>) -> Held {

@@ -1,7 +1,7 @@
 //! The judge on all short scripts, also those with places and rules out of range.
 
 use super::held::{must, Held};
-use super::literal::{self, is_safe, lists_of, opens_no_hole, patterns, policies, Pattern};
+use super::literal::{self, is_safe, keeps_the_default, lists_of, patterns, policies, Pattern};
 use crate::commands::Command;
 use crate::judge::judge;
 use std::collections::BTreeMap;
@@ -42,8 +42,8 @@ impl Bench {
         let (initial, target) = (&lists[0], &lists[lists.len() - 1]);
         let holds = match self.judge(initial, target, script)? {
             30 => true,
-            31 => opens_no_hole(lists, &self.patterns),
-            32 => is_safe(lists, &self.patterns) && opens_no_hole(lists, &self.patterns),
+            31 => keeps_the_default(lists, &self.patterns),
+            32 => is_safe(lists, &self.patterns) && keeps_the_default(lists, &self.patterns),
             _ => false,
         };
         must(holds, || format!("the verdict's meaning fails: {lists:?} {script:?}"))

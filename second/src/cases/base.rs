@@ -20,9 +20,9 @@ pub fn rules(count: u16) -> Vec<u8> {
     (0..count).flat_map(|number| rule_from(number, number % 2 == 1)).collect()
 }
 
-/// Five rules, both policies, a keep list and a script: no test turns them away.
+/// Five rules, both policies, default permit, a keep list and a script: no test turns them away.
 pub fn base() -> Given {
     let (initial, target) = (list_value(&[0, 1, 2, 3]), list_value(&[1, 0, 4, 3]));
     let given = Given { rules: rules(5), initial, target, ..Given::default() };
-    given.keep(&[1, 3]).script(2, &[Ins { i: 3, r: 4 }, DelPlace { i: 4 }, Mov { i: 1, j: 2 }])
+    given.permitting().keep(&[1, 3]).script(2, &[Ins { i: 3, r: 4 }, DelPlace { i: 4 }, Mov { i: 1, j: 2 }])
 }

@@ -40,11 +40,13 @@ impl Case {
 
     pub fn bytes(&self) -> Vec<u8> {
         let (flags, mut parts) = match &self.over {
-            Over::File(file) => ([0, 0, 0], vec![file.as_slice()]),
-            Over::Lists(given) => (
-                [1, u16::from(given.keep.is_some()), u16::from(given.script.is_some())],
-                vec![&given.rules[..], &given.initial, &given.target, given.lent_keep(), given.lent_script()],
-            ),
+            Over::File(file) => (vec![0; 4], vec![file.as_slice()]),
+            Over::Lists(given) => {
+                let there = [&given.default, &given.keep, &given.script].map(|part| u16::from(part.is_some()));
+                let lent = [given.lent_default(), given.lent_keep(), given.lent_script()];
+                let lists = [&given.rules[..], &given.initial, &given.target];
+                ([&[1], &there[..]].concat(), [lists, lent].concat())
+            }
         };
         let mut bytes = list_value(&flags);
         bytes.extend(u16::try_from(self.room).expect("a room of two bytes").to_be_bytes());

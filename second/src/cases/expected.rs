@@ -9,7 +9,7 @@ use crate::file::{self, Contents, Values};
 use crate::format::{list_value, numbers, Refusal};
 use crate::judge::judge;
 use crate::plan::plan_contents;
-use crate::policy::{self, Decision};
+use crate::policy::{self, Decision, Policy, PolicyValues};
 use crate::replay::{self, RunningList};
 
 /// Contents with the script that is to be replayed.
@@ -44,13 +44,14 @@ fn span(file: &[u8], part: &[u8]) -> String {
 }
 
 fn reading(file: &[u8], contents: &Contents) -> String {
-    let Contents { rules, initial, target, keep, script } = contents;
+    let Contents { rules, initial, target, default, keep, script } = contents;
     let optional = |part: &Option<&[u8]>| part.map_or("none".to_string(), |part| span(file, part));
     format!(
-        "rules {} initial {} target {} keep {} script {}",
+        "rules {} initial {} target {} default {} keep {} script {}",
         rules.len(),
         span(file, initial),
         span(file, target),
+        optional(default),
         optional(keep),
         optional(script)
     )
@@ -112,10 +113,10 @@ fn file_text(bytes: &[u8], case: &Case) -> String {
     let scripted = file::read_with_script(bytes);
     let read = read_line(bytes);
     let to_judge = or_refused(scripted.clone(), |(contents, _)| reading(bytes, &contents));
-    let decide = |policy: fn(&Contents) -> Vec<u8>| {
-        or_refused(contents.clone(), |contents| decision(policy::decide(&contents.rules, &policy(&contents), flow)))
-    };
-    let (initial, target) = (decide(|contents| contents.initial.to_vec()), decide(|contents| contents.target.to_vec()));
+    let [initial, target] = [false, true].map(|of_target| {
+        let decided = |contents: Contents| policy::decide(&contents.rules, Policy::of(&contents, of_target), flow);
+        or_refused(contents.clone(), |contents| decision(decided(contents)))
+    });
     let first = format!("read {read}\nread to judge {to_judge}\ninitial {initial}\ntarget {target}\n");
     let flows = flow_lines(*room, |of_target, place| policy::decide_flows_file(bytes, of_target, &case.flows, place));
     first + &later_lines(*room, contents, scripted.clone(), scripted) + &flows
@@ -133,14 +134,15 @@ fn lists_text(given: &Given, case: &Case) -> String {
         Ok(_) => "good".to_string(),
         Err(refusal) => refusal.number.to_string(),
     };
-    let decide = |policy| or_refused(policy::decide_values(values.rules, policy, flow), decision);
-    let first = format!("check {check}\ninitial {}\ntarget {}\n", decide(values.initial), decide(values.target));
+    let both = [values.initial, values.target];
+    let policies = both.map(|list| PolicyValues { rules: values.rules, list, default: values.default });
+    let [initial, target] = policies.map(|policy| or_refused(policy::decide_values(&policy, flow), decision));
+    let first = format!("check {check}\ninitial {initial}\ntarget {target}\n");
     let judged = checked(&values, given.lent_script());
     // The replay is given neither a target nor a keep list.
     let replay = checked(&Values { target: &[], keep: None, ..values }, given.lent_script());
     let flows = flow_lines(*room, |of_target, place| {
-        let list = if of_target { values.target } else { values.initial };
-        policy::decide_flows_values(values.rules, list, &case.flows, place)
+        policy::decide_flows_values(&policies[usize::from(of_target)], &case.flows, place)
     });
     first + &later_lines(*room, contents, judged, replay) + &flows
 }

@@ -3,12 +3,16 @@
 use super::case::{both_of_all, Case, Over, NO_PORTS};
 use super::given::{given, Given};
 use crate::commands::Command::Mov;
-use crate::format::RULE_BYTES;
+use crate::format::{RULE_BYTES, TAG_DEFAULT};
 
 type Fault = fn(&mut Given);
 
 pub fn sound() -> Given {
-    given(4, &[0, 1, 2], &[2, 0, 1]).keep(&[0, 1]).script(2, &[Mov { i: 3, j: 1 }])
+    given(4, &[0, 1, 2], &[2, 0, 1]).permitting().keep(&[0, 1]).script(2, &[Mov { i: 3, j: 1 }])
+}
+
+fn default(given: &mut Given) -> &mut Vec<u8> {
+    given.default.get_or_insert_default()
 }
 
 fn keep(given: &mut Given) -> &mut Vec<u8> {
@@ -20,7 +24,7 @@ fn script(given: &mut Given) -> &mut Vec<u8> {
 }
 
 /// In the document's order; 7 stands among the limits.
-const FAULTS: [Fault; 14] = [
+const FAULTS: [Fault; 16] = [
     |given| given.rules.push(0),
     |given| given.rules[2 * RULE_BYTES] = 2,
     |given| given.rules.extend_from_within(..RULE_BYTES),
@@ -30,6 +34,8 @@ const FAULTS: [Fault; 14] = [
     |given| given.target.truncate(5),
     |given| given.target[0] = 255,
     |given| given.target.extend([0, 0]),
+    |given| default(given).push(1),
+    |given| default(given)[0] = 0,
     |given| keep(given).push(3),
     |given| keep(given).extend([0, 2]),
     |given| keep(given).rotate_left(2),
@@ -38,7 +44,7 @@ const FAULTS: [Fault; 14] = [
 ];
 
 /// Other ways to be wrong.
-const OTHERS: [Fault; 14] = [
+const OTHERS: [Fault; 16] = [
     |given| given.rules.truncate(RULE_BYTES - 1),
     |given| given.rules[0] = 255,
     |given| given.rules[1..3].copy_from_slice(&[18, 17]),
@@ -48,6 +54,8 @@ const OTHERS: [Fault; 14] = [
     |given| given.rules[3 * RULE_BYTES + 23..].copy_from_slice(&[0, 1, 0, 0]),
     |given| given.initial.extend([0, 4]),
     |given| given.target.extend([0, 4]),
+    |given| default(given).clear(),
+    |given| default(given)[0] = 2,
     |given| keep(given).extend([0, 1]),
     |given| script(given).clear(),
     |given| script(given)[0] = 1,
@@ -68,8 +76,20 @@ pub fn single() -> Vec<Given> {
     FAULTS.iter().chain(&OTHERS).map(|&fault| with(&[fault])).collect()
 }
 
+/// Files with the default behind the keep list, before the target policy, and twice.
+fn misplaced() -> Vec<Case> {
+    let fields = sound().fields();
+    let at = fields.iter().position(|field| field[0] == TAG_DEFAULT).expect("a default");
+    let [mut late, mut early, mut twice] = [(); 3].map(|()| fields.clone());
+    late.swap(at, at + 1);
+    early.swap(at - 1, at);
+    twice.insert(at, fields[at].clone());
+    [late, early, twice].map(|fields| Case::new(Over::File(fields.concat()), 0, NO_PORTS)).into()
+}
+
 pub fn all() -> Vec<Case> {
     let mut cases = both_of_all([single(), vec![sound()]].concat());
+    cases.extend(misplaced());
     for (index, &later) in FAULTS.iter().enumerate() {
         for &earlier in &FAULTS[..index] {
             let over = Over::Lists(with(&[later, earlier]));

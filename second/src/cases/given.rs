@@ -3,12 +3,13 @@
 use crate::commands::{commands_of, script_value, Command};
 use crate::file::Values;
 use crate::format::{
-    add_field, list_value, numbers, RULE_BYTES, TAG_INITIAL, TAG_KEEP, TAG_RULE, TAG_SCRIPT, TAG_TARGET,
+    add_field, list_value, numbers, RULE_BYTES, TAG_DEFAULT, TAG_INITIAL, TAG_KEEP, TAG_RULE, TAG_SCRIPT, TAG_TARGET,
 };
 use crate::plan::plan;
 use crate::rule::plain_rule;
 
-/// Lent for a keep list and for a script that are said to be absent.
+/// Lent for a default, a keep list and a script that are said to be absent.
+const ABSENT_DEFAULT: [u8; 1] = [8];
 const ABSENT_KEEP: [u8; 1] = [7];
 const ABSENT_SCRIPT: [u8; 1] = [9];
 
@@ -18,19 +19,30 @@ pub struct Given {
     pub rules: Vec<u8>,
     pub initial: Vec<u8>,
     pub target: Vec<u8>,
+    pub default: Option<Vec<u8>>,
     pub keep: Option<Vec<u8>>,
     pub script: Option<Vec<u8>>,
 }
 
 impl Given {
     pub fn values(&self) -> Values<'_> {
-        let (keep, script) = (self.keep.as_deref(), self.script.as_deref());
-        Values { rules: &self.rules, initial: &self.initial, target: &self.target, keep, script }
+        Values {
+            rules: &self.rules,
+            initial: &self.initial,
+            target: &self.target,
+            default: self.default.as_deref(),
+            keep: self.keep.as_deref(),
+            script: self.script.as_deref(),
+        }
     }
 
     /// The script's bytes, also where it is said to be absent.
     pub fn lent_script(&self) -> &[u8] {
         self.script.as_deref().unwrap_or(&ABSENT_SCRIPT)
+    }
+
+    pub fn lent_default(&self) -> &[u8] {
+        self.default.as_deref().unwrap_or(&ABSENT_DEFAULT)
     }
 
     pub fn lent_keep(&self) -> &[u8] {
@@ -41,13 +53,19 @@ impl Given {
     pub fn fields(&self) -> Vec<Vec<u8>> {
         let rules = self.rules.chunks(RULE_BYTES).map(|rule| field(TAG_RULE, rule));
         let policies = [field(TAG_INITIAL, &self.initial), field(TAG_TARGET, &self.target)];
+        let default = self.default.iter().map(|value| field(TAG_DEFAULT, value));
         let keep = self.keep.iter().map(|value| field(TAG_KEEP, value));
         let script = self.script.iter().map(|value| field(TAG_SCRIPT, value));
-        rules.chain(policies).chain(keep).chain(script).collect()
+        rules.chain(policies).chain(default).chain(keep).chain(script).collect()
     }
 
     pub fn file(&self) -> Vec<u8> {
         self.fields().concat()
+    }
+
+    /// With default permit.
+    pub fn permitting(self) -> Given {
+        Given { default: Some(vec![1]), ..self }
     }
 
     pub fn keep(self, keep: &[u16]) -> Given {
@@ -80,5 +98,5 @@ pub fn field(tag: u8, value: &[u8]) -> Vec<u8> {
 /// Policies over so many plain rules.
 pub fn given(rules: u16, initial: &[u16], target: &[u16]) -> Given {
     let rules = (0..rules).flat_map(plain_rule).collect();
-    Given { rules, initial: list_value(initial), target: list_value(target), keep: None, script: None }
+    Given { rules, initial: list_value(initial), target: list_value(target), ..Given::default() }
 }

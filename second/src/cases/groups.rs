@@ -43,7 +43,11 @@ fn examples() -> Vec<Case> {
         given(4, &[0, 1, 2, 3], &[1, 0, 2, 3]).script(1, &swaps),
         given(3, &[0, 1], &[0, 1]).script(2, &[Mov { i: 2, j: 3 }]),
         given(3, &[0, 1], &[0, 1, 2]).script(2, &[Ins { i: 3, r: 2 }]),
-        permit_port_zero,
+        permit_port_zero.clone(),
+        permit_port_zero.permitting(),
+        first_example().permitting().planned(1),
+        third_example().permitting().keep(&[0, 1]).planned(2),
+        Given::default().permitting(),
     ]);
     cases.push(Case::new(Over::File(Vec::new()), 0, NO_PORTS));
     cases
@@ -57,7 +61,7 @@ fn rooms() -> Vec<Case> {
 }
 
 /// Flows at, before and behind both ends of each range, by a rule, by one that is
-/// wider by one at each end, by one that takes all, and by none of them.
+/// wider by one at each end, by one that takes all, and by none of them, under both defaults.
 fn flows() -> Vec<Case> {
     let narrow = [(6, 17), (0x0a00_0000, 0x0a00_00ff), (1024, 65533), (0xc0a8_0100, 0xc0a8_01fe), (80, 443)]
         .map(|(low, high)| Range { low, high });
@@ -72,6 +76,9 @@ fn flows() -> Vec<Case> {
             let mut numbers = narrow.map(|range| if number < high { range.high } else { range.low });
             numbers[which] = number;
             cases.extend(both(given.clone(), FLOW_ROOM, flow_of(numbers)));
+            if !(low - 1..=high + 1).contains(&number) {
+                cases.extend(both(given.clone().permitting(), FLOW_ROOM, flow_of(numbers)));
+            }
         }
     }
     cases

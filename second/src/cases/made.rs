@@ -79,8 +79,9 @@ pub fn lists() -> Vec<Case> {
         if made.rules.len() <= MOST_BYTES && outcomes.wants(&outcome) {
             let flow = any_flow(made.rules.chunks_exact(RULE_BYTES), index);
             let room = any_room(made.plan_room, index);
-            let inputs::MadeValues { rules, initial, target, keep, script, .. } = made;
-            cases.push(Case::new(Over::Lists(Given { rules, initial, target, keep, script }), room, flow));
+            let inputs::MadeValues { rules, initial, target, default, keep, script, .. } = made;
+            let given = Given { rules, initial, target, default, keep, script };
+            cases.push(Case::new(Over::Lists(given), room, flow));
         }
     }
     cases

@@ -6,14 +6,16 @@ use super::expected::read_line;
 use super::given::field;
 use super::row::{Group, Trial};
 use crate::format::{
-    list_value, MOST_COMMANDS, MOST_IN_POLICY, MOST_RULES, TAG_INITIAL, TAG_KEEP, TAG_RULE, TAG_SCRIPT, TAG_TARGET,
+    list_value, MOST_COMMANDS, MOST_IN_POLICY, MOST_RULES, TAG_DEFAULT, TAG_INITIAL, TAG_KEEP, TAG_RULE, TAG_SCRIPT,
+    TAG_TARGET,
 };
 
 /// Which field of the base is which; its five rules come first.
 const INITIAL: usize = 5;
 const TARGET: usize = 6;
-const KEEP: usize = 7;
-const SCRIPT: usize = 8;
+const DEFAULT: usize = 7;
+const KEEP: usize = 8;
+const SCRIPT: usize = 9;
 
 fn with_field(index: usize, new: Vec<u8>) -> Vec<u8> {
     let mut fields = base().fields();
@@ -35,7 +37,7 @@ fn cut() -> Vec<Vec<u8>> {
 fn tags() -> Vec<Vec<u8>> {
     let mut files = Vec::new();
     for (index, bytes) in base().fields().into_iter().enumerate() {
-        for tag in [0, 1, 2, 3, 4, 5, 6, 255] {
+        for tag in [0, 1, 2, 3, 4, 5, 6, 7, 255] {
             if tag != bytes[0] {
                 files.push(with_field(index, [&[tag], &bytes[1..]].concat()));
             }
@@ -47,7 +49,7 @@ fn tags() -> Vec<Vec<u8>> {
 fn lengths() -> Vec<Vec<u8>> {
     let fields = base().fields();
     let mut files = Vec::new();
-    for index in [0, 4, INITIAL, TARGET, KEEP, SCRIPT] {
+    for index in [0, 4, INITIAL, TARGET, DEFAULT, KEEP, SCRIPT] {
         for size in [0, 1, 26, 28, 1025, 1026, 10242, 10246, 65535u16] {
             let bytes = &fields[index];
             files.push(with_field(index, [&bytes[..1], &size.to_be_bytes(), &bytes[3..]].concat()));
@@ -86,6 +88,12 @@ fn lists() -> Vec<Vec<u8>> {
     files
 }
 
+/// Defaults of each kind of value, and of the lengths beside 1.
+fn defaults() -> Vec<Vec<u8>> {
+    let values: [&[u8]; 8] = [&[0], &[1], &[2], &[128], &[255], &[], &[1, 1], &[0, 1]];
+    values.map(|value| with_field(DEFAULT, field(TAG_DEFAULT, value))).to_vec()
+}
+
 fn scripts() -> Vec<Vec<u8>> {
     let values: [&[u8]; 15] = [
         &[0],
@@ -107,11 +115,24 @@ fn scripts() -> Vec<Vec<u8>> {
     values.map(|value| with_field(SCRIPT, field(TAG_SCRIPT, value))).to_vec()
 }
 
-/// Fields left out, the last ones and the keep list.
+/// Fields left out, the last ones, the default and the keep list.
 fn left_out() -> Vec<Vec<u8>> {
     let fields = base().fields();
-    let without_keep = [&fields[..KEEP], &fields[SCRIPT..]].concat().concat();
-    [without_keep].into_iter().chain([KEEP, SCRIPT, TARGET, INITIAL].map(|count| fields[..count].concat())).collect()
+    let without = |from: usize, to: usize| [&fields[..from], &fields[to..]].concat().concat();
+    let between = [(DEFAULT, KEEP), (KEEP, SCRIPT), (DEFAULT, SCRIPT), (TARGET, DEFAULT)];
+    let mut files = between.map(|(from, to)| without(from, to)).to_vec();
+    files.extend([DEFAULT, KEEP, SCRIPT, TARGET, INITIAL].map(|count| fields[..count].concat()));
+    files
+}
+
+/// A default that stands twice, or in the place of another.
+fn moved_defaults() -> Vec<Vec<u8>> {
+    let mut fields = base().fields();
+    let default = fields.remove(DEFAULT);
+    let at = |index: usize| [&fields[..index], std::slice::from_ref(&default), &fields[index..]].concat();
+    let mut files = [0, 1, INITIAL, TARGET, KEEP, SCRIPT].map(|index| at(index).concat()).to_vec();
+    files.extend([KEEP, SCRIPT].map(|index| [at(DEFAULT)[..index].concat(), default.clone()].concat()));
+    files
 }
 
 fn swapped(one: usize, other: usize) -> Vec<u8> {
@@ -122,9 +143,20 @@ fn swapped(one: usize, other: usize) -> Vec<u8> {
 
 /// Fields out of order, and files of a few bytes.
 fn out_of_order() -> Vec<Vec<u8>> {
-    let short: [&[u8]; 7] =
-        [&[], &[1], &[1, 0], &[2, 0, 0], &[2, 0, 0, 3, 0, 0], &[3, 0, 0], &[2, 0, 0, 3, 0, 0, 5, 0, 1, 1]];
-    let mut files = vec![swapped(KEEP, SCRIPT), swapped(INITIAL, TARGET), swapped(0, INITIAL)];
+    let short: [&[u8]; 10] = [
+        &[],
+        &[1],
+        &[1, 0],
+        &[2, 0, 0],
+        &[2, 0, 0, 3, 0, 0],
+        &[3, 0, 0],
+        &[6, 0, 1, 1],
+        &[2, 0, 0, 3, 0, 0, 6, 0, 1, 1],
+        &[2, 0, 0, 3, 0, 0, 5, 0, 1, 1],
+        &[2, 0, 0, 3, 0, 0, 6, 0, 1, 1, 5, 0, 1, 1],
+    ];
+    let pairs = [(KEEP, SCRIPT), (DEFAULT, SCRIPT), (INITIAL, TARGET), (0, INITIAL)];
+    let mut files = pairs.map(|(one, other)| swapped(one, other)).to_vec();
     files.extend(short.map(<[u8]>::to_vec));
     files
 }
@@ -175,13 +207,21 @@ fn limits() -> Vec<Vec<u8>> {
         scripted(1, app, MOST_COMMANDS),
         scripted(1, app, MOST_COMMANDS + 1),
         scripted(2, mov, MOST_COMMANDS),
-        [rule_fields(MOST_RULES), apart, field(TAG_KEEP, &[]), script_field(1, del, MOST_COMMANDS)].concat(),
+        [
+            rule_fields(MOST_RULES),
+            apart,
+            field(TAG_DEFAULT, &[1]),
+            field(TAG_KEEP, &[]),
+            script_field(1, del, MOST_COMMANDS),
+        ]
+        .concat(),
     ]);
     files
 }
 
 pub fn all() -> Vec<Group> {
-    let values = [rules(), lists(), left_out(), scripts(), out_of_order()].concat();
+    let fields_moved = [left_out(), moved_defaults()].concat();
+    let values = [rules(), lists(), defaults(), fields_moved, scripts(), out_of_order()].concat();
     let groups = [("cut", cut()), ("tag", tags()), ("length", lengths()), ("value", values), ("limit", limits())];
     let trial = |file: Vec<u8>| Trial { text: read_line(&file) + "\n", bytes: file };
     groups.map(|(name, files)| (name, files.into_iter().map(trial).collect())).into()

@@ -2,7 +2,8 @@
 //! fault, in places from empty to far too large.
 //!
 //! A case: the size of the place (two bytes), the byte that fills it, whether
-//! there is a keep list, whether there is a script; then the five values, a row.
+//! there is a default, whether there is a keep list, whether there is a script;
+//! then the six values, a row.
 
 use super::base::{base, rule_from, rules, ENDS};
 use super::expected::{checksum, or_refused, read_line, NARROW_PRIME};
@@ -23,7 +24,7 @@ const GREAT: usize = 30000;
 
 struct Case {
     given: Given,
-    /// Lent for a keep list and for a script that are absent.
+    /// Lent for a default, for a keep list and for a script that are absent.
     unread: Vec<u8>,
     size: usize,
     filling: u8,
@@ -35,11 +36,13 @@ impl Case {
     }
 
     fn bytes(&self) -> Vec<u8> {
-        let Given { rules, initial, target, keep, script } = &self.given;
+        let Given { rules, initial, target, default, keep, script } = &self.given;
         let mut bytes = u16::try_from(self.size).expect("a size of two bytes").to_be_bytes().to_vec();
-        bytes.extend([self.filling, u8::from(keep.is_some()), u8::from(script.is_some())]);
-        let [keep, script] = [keep, script].map(|value| value.as_ref().unwrap_or(&self.unread));
-        for value in [rules, initial, target, keep, script] {
+        let optional = [default, keep, script];
+        bytes.push(self.filling);
+        bytes.extend(optional.map(|value| u8::from(value.is_some())));
+        let [default, keep, script] = optional.map(|value| value.as_ref().unwrap_or(&self.unread));
+        for value in [rules, initial, target, default, keep, script] {
             add_part(&mut bytes, value);
         }
         bytes
@@ -61,7 +64,7 @@ impl Case {
     }
 }
 
-/// Accepted values: absent and empty keep lists and scripts, policies without rules, a catalogue without rules.
+/// Accepted values: both defaults, absent and empty keep lists and scripts, policies without rules, a catalogue without rules.
 fn shapes() -> Vec<Given> {
     let scripts = [None, Some(vec![1]), Some(vec![2]), Some(vec![1, 1, 0, 2, 0, 0, 2, 0, 0, 0, 0]), base().script];
     let mut all = Vec::new();
@@ -70,7 +73,12 @@ fn shapes() -> Vec<Given> {
     }
     let none = Given::default;
     all.extend([
+        Given { default: None, ..base() },
+        Given { default: None, keep: None, ..base() },
+        Given { default: None, script: None, ..base() },
         none(),
+        none().permitting(),
+        Given { script: Some(vec![1]), ..none().permitting() },
         Given { keep: Some(vec![]), ..none() },
         Given { script: Some(vec![1]), ..none() },
         Given { keep: Some(vec![]), script: Some(vec![2, 5, 0, 1, 0, 1]), ..none() },
@@ -90,9 +98,10 @@ fn shape_cases() -> Vec<Case> {
     let mut all: Vec<(Given, Vec<u8>)> = shapes().into_iter().map(|given| (given, Vec::new())).collect();
     for script in [None, Some(vec![1])] {
         for unread in [vec![0], list_value(&[4, 4]), list_value(&[9]), vec![7; 31]] {
-            all.push((Given { keep: None, script: script.clone(), ..base() }, unread));
+            all.push((Given { default: None, keep: None, script: script.clone(), ..base() }, unread));
         }
     }
+    all.push((Given { default: None, ..base() }, vec![1]));
     let sized = |(given, unread): (Given, Vec<u8>)| {
         [AMPLE, given.file().len()].map(|size| Case { unread: unread.clone(), ..Case::new(given.clone(), size) })
     };
@@ -106,7 +115,7 @@ fn rooms() -> Vec<Case> {
         base(),
         Given::default(),
         Given { keep: None, ..base() },
-        Given { script: None, ..base() },
+        Given { default: None, script: None, ..base() },
         Given { keep: Some(vec![]), script: Some(vec![1]), ..base() },
     ] {
         let needed = given.file().len();
@@ -159,6 +168,12 @@ fn policy_faults(with: fn(Vec<u8>) -> Given) -> Vec<Vec<Given>> {
     vec![lengths.map(with).to_vec(), of_lists(&outside), of_lists(&twice)]
 }
 
+fn default_faults() -> Vec<Vec<Given>> {
+    let with = |default: Vec<u8>| Given { default: Some(default), ..base() };
+    let lengths = [vec![], vec![1, 1], vec![0, 1], vec![1; 27]];
+    vec![lengths.map(with).to_vec(), [0, 2, 128, 255].map(|value| with(vec![value])).to_vec()]
+}
+
 fn keep_faults() -> Vec<Vec<Given>> {
     let with = |keep: Vec<u8>| Given { keep: Some(keep), ..base() };
     let orders: [&[u16]; 7] = [&[3, 1], &[1, 1], &[9], &[1, 0], &[2], &[4], &[65535]];
@@ -204,7 +219,7 @@ fn script_faults() -> Vec<Vec<Given>> {
 fn faults() -> Vec<Vec<Given>> {
     let initial = policy_faults(|initial| Given { initial, ..base() });
     let target = policy_faults(|target| Given { target, ..base() });
-    [rule_faults(), initial, target, keep_faults(), script_faults()].concat()
+    [rule_faults(), initial, target, default_faults(), keep_faults(), script_faults()].concat()
 }
 
 fn fault_cases() -> Vec<Case> {
@@ -229,6 +244,7 @@ fn with_both(one: &Given, other: &Given) -> Option<Given> {
         rules: either(&base.rules, &one.rules, &other.rules)?,
         initial: either(&base.initial, &one.initial, &other.initial)?,
         target: either(&base.target, &one.target, &other.target)?,
+        default: either(&base.default, &one.default, &other.default)?,
         keep: either(&base.keep, &one.keep, &other.keep)?,
         script: either(&base.script, &one.script, &other.script)?,
     })
@@ -254,6 +270,7 @@ fn doubles() -> Vec<Given> {
         Given { target: list_value(&[0, 0, 5]), ..base() },
         Given { initial: odd(&[5, 5]), ..base() },
         Given { target: odd(&[0, 0]), ..base() },
+        Given { default: Some(vec![2, 2]), ..base() },
         Given { keep: Some(odd(&[3, 1])), ..base() },
         Given { script: Some(vec![3, 1]), ..base() },
     ]
@@ -268,9 +285,10 @@ fn full_files() -> Vec<Case> {
     let all = || first_numbers(MOST_IN_POLICY);
     let upper = first_numbers(MOST_RULES)[2 * MOST_IN_POLICY..].to_vec();
     let script = Some(script(1, DEL, MOST_COMMANDS));
-    let most = Given { rules: rules(MOST_RULES as u16), initial: all(), target: all(), keep: Some(all()), script };
+    let rules = rules(MOST_RULES as u16);
+    let most = Given { rules, initial: all(), target: all(), keep: Some(all()), script, ..Given::default() };
     let apart = Given { target: upper, keep: Some(vec![]), script: None, ..most.clone() };
-    let most = [44045, 44044, 65535].map(|size| Case::new(most.clone(), size));
+    let most = [44049, 44048, 65535].map(|size| Case::new(most.clone().permitting(), size));
     most.into_iter().chain([32777, 32775].map(|size| Case::new(apart.clone(), size))).collect()
 }
 

@@ -2,7 +2,7 @@
 //! knows nothing of fields.
 
 use super::random::Random;
-use crate::format::{HEAD_BYTES, RULE_BYTES, TAG_INITIAL, TAG_KEEP, TAG_RULE, TAG_SCRIPT, TAG_TARGET};
+use crate::format::{HEAD_BYTES, RULE_BYTES, TAG_DEFAULT, TAG_INITIAL, TAG_KEEP, TAG_RULE, TAG_SCRIPT, TAG_TARGET};
 
 /// A field before it is laid out; its head may say another length.
 #[derive(Clone)]
@@ -30,11 +30,11 @@ pub fn join(fields: &[Field]) -> Vec<u8> {
 }
 
 const ODD_LENGTHS: [usize; 15] = [0, 1, 2, 5, 6, 26, 27, 28, 1024, 1025, 1026, 10241, 10242, 10246, 65535];
-const ODD_TAGS: [u8; 9] = [0, 1, 2, 3, 4, 5, 6, 128, 255];
+const ODD_TAGS: [u8; 10] = [0, 1, 2, 3, 4, 5, 6, 7, 128, 255];
 
 /// Damages one field, or their order.
 pub fn one_field(random: &mut Random, fields: &mut Vec<Field>) {
-    match random.below(18) {
+    match random.below(21) {
         0 => short_value(random, fields),
         1 => other_tag(random, fields),
         2 => other_order(random, fields),
@@ -46,6 +46,7 @@ pub fn one_field(random: &mut Random, fields: &mut Vec<Field>) {
         11 => outside_number(random, fields),
         12 | 13 => number_twice(random, fields),
         14 | 15 => bad_keep(random, fields),
+        16..=18 => bad_default(random, fields),
         _ => bad_script(random, fields),
     }
 }
@@ -181,7 +182,8 @@ fn number_twice(random: &mut Random, fields: &mut [Field]) {
 /// A keep list made wrong, or one that may be wrong.
 fn bad_keep(random: &mut Random, fields: &mut Vec<Field>) {
     let Some(target) = fields.iter().position(|field| field.tag == TAG_TARGET) else { return };
-    let at = target + 1;
+    let has_default = fields.get(target + 1).is_some_and(|field| field.tag == TAG_DEFAULT);
+    let at = target + 1 + usize::from(has_default);
     if fields.get(at).is_none_or(|field| field.tag != TAG_KEEP) {
         let value = fields[random.between(target.saturating_sub(1), target)].value.clone();
         fields.insert(at, Field::new(TAG_KEEP, value));
@@ -200,6 +202,27 @@ fn bad_keep(random: &mut Random, fields: &mut Vec<Field>) {
             }
         }
     }
+}
+
+/// A default with another value, of another length, out of its place, twice, or cut off.
+fn bad_default(random: &mut Random, fields: &mut Vec<Field>) {
+    fields.retain(|field| field.tag != TAG_DEFAULT);
+    let Some(target) = fields.iter().position(|field| field.tag == TAG_TARGET) else { return };
+    let mut field = Field::new(TAG_DEFAULT, vec![1]);
+    let mut at = target + 1;
+    match random.below(8) {
+        0..=2 => field.value[0] = random.pick(&[0, 0, 2, 2, 3, 128, 255]),
+        3 => field.value.resize(random.pick(&[0, 2, 2, 27]), 1),
+        4 => at = random.between(at, fields.len()),
+        5 => at = random.pick(&[0, target.saturating_sub(1), target]),
+        6 => fields.insert(at, field.clone()),
+        _ => {
+            field.said_length = Some(1);
+            field.value.clear();
+            fields.truncate(at);
+        }
+    }
+    fields.insert(at, field);
 }
 
 fn bad_script(random: &mut Random, fields: &mut Vec<Field>) {

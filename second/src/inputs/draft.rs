@@ -4,7 +4,9 @@ use super::damage::Field;
 use super::random::Random;
 use super::rules;
 use crate::commands::{script_value, Command};
-use crate::format::{list_value, MOST_IN_POLICY, MOST_RULES, TAG_INITIAL, TAG_KEEP, TAG_RULE, TAG_SCRIPT, TAG_TARGET};
+use crate::format::{
+    list_value, MOST_IN_POLICY, MOST_RULES, TAG_DEFAULT, TAG_INITIAL, TAG_KEEP, TAG_RULE, TAG_SCRIPT, TAG_TARGET,
+};
 
 /// A script's type and commands.
 pub type Script = (u8, Vec<Command>);
@@ -13,6 +15,7 @@ pub struct Draft {
     pub rules: Vec<Vec<u8>>,
     pub initial: Vec<u16>,
     pub target: Vec<u16>,
+    pub permits_by_default: bool,
     pub keep: Option<Vec<u16>>,
     pub script: Option<Script>,
 }
@@ -94,14 +97,18 @@ impl Draft {
     pub fn of_size(random: &mut Random, size: usize) -> Draft {
         let initial = any_policy(random, size, MOST_IN_POLICY);
         let target = any_target(random, &initial, size);
+        let permits_by_default = random.one_in(2);
         let keep = any_keep(random, &initial, &target);
-        Draft { rules: rules::catalogue(random, size), initial, target, keep, script: None }
+        Draft { rules: rules::catalogue(random, size), initial, target, permits_by_default, keep, script: None }
     }
 
     pub fn fields(&self) -> Vec<Field> {
         let mut fields: Vec<Field> = self.rules.iter().map(|rule| Field::new(TAG_RULE, rule.clone())).collect();
         fields.push(Field::new(TAG_INITIAL, list_value(&self.initial)));
         fields.push(Field::new(TAG_TARGET, list_value(&self.target)));
+        if self.permits_by_default {
+            fields.push(Field::new(TAG_DEFAULT, vec![1]));
+        }
         if let Some(keep) = &self.keep {
             fields.push(Field::new(TAG_KEEP, list_value(keep)));
         }

@@ -4,7 +4,7 @@ use super::damage::Field;
 use super::random::Random;
 use crate::commands::script_field;
 use crate::file::{check, file_bytes, Values};
-use crate::format::{numbers, TAG_INITIAL, TAG_KEEP, TAG_RULE, TAG_SCRIPT, TAG_TARGET};
+use crate::format::{numbers, TAG_DEFAULT, TAG_INITIAL, TAG_KEEP, TAG_RULE, TAG_SCRIPT, TAG_TARGET};
 use crate::plan::plan;
 
 /// What is lent where nothing will be written.
@@ -15,6 +15,7 @@ pub struct MadeValues {
     pub rules: Vec<u8>,
     pub initial: Vec<u8>,
     pub target: Vec<u8>,
+    pub default: Option<Vec<u8>>,
     pub keep: Option<Vec<u8>>,
     pub script: Option<Vec<u8>>,
     pub plan_room: usize,
@@ -27,6 +28,7 @@ impl MadeValues {
             rules: &self.rules,
             initial: &self.initial,
             target: &self.target,
+            default: self.default.as_deref(),
             keep: self.keep.as_deref(),
             script: self.script.as_deref(),
         }
@@ -64,6 +66,7 @@ pub fn gather(random: &mut Random, fields: &[Field]) -> MadeValues {
         rules: rules.flat_map(|field| field.value.iter().copied()).collect(),
         initial: first_value(fields, TAG_INITIAL).unwrap_or_default(),
         target: first_value(fields, TAG_TARGET).unwrap_or_default(),
+        default: first_value(fields, TAG_DEFAULT),
         keep: first_value(fields, TAG_KEEP),
         script: first_value(fields, TAG_SCRIPT),
         plan_room: 0,

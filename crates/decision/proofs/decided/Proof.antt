@@ -5,7 +5,7 @@ use native.Mathlib.Nat.{sub-self}
 use native.Mathlib.Omega.{arith}
 use mathlib.Core.Path.{_≡_, sym}
 use borrow.Author.Needs.{needs}
-use Rattle.policy.specs.Policy.{matching}
+use Rattle.policy.specs.Policy.{Matching, Policy, under, matching}
 use Rattle.deployment.specs.Values.{numbersOf}
 use Rattle.deployment.specs.Catalogue.{catalogueOf}
 use Rattle.decision.proofs.FirstMatch.{Passed, passed-none, passed-more, decides-here, decides-none}
@@ -13,22 +13,27 @@ use Rattle.decision.proofs.decided.Statement.{statement}
 use Rattle.decision.proofs.decided.Tie as tie
 
 abbrev Inv-loop : tie.InvT-loop
-Inv-loop rules skip list flow count left₀ left =
-    (left ≤ count) × Passed (matching (catalogueOf skip rules) flow) (numbersOf list) (count - left)
+Inv-loop rules skip list default flow count left₀ left =
+    (left ≤ count) × Passed (matching (catalogueOf skip rules) flow) (under default (numbersOf list)) (count - left)
 
 abbrev μ-loop : tie.MeasureT-loop
-μ-loop rules skip list flow count left₀ left = left
+μ-loop rules skip list default flow count left₀ left = left
 
 -- the start of the function, seen from the head of a turn
 abbrev start : tie.At-loop Inv-loop μ-loop → tie.Start Inv-loop μ-loop
 start head = head .before .before .before .before
 
+-- the flow that is asked about, and the policy that decides it
+abbrev asked : tie.Start Inv-loop μ-loop → Matching
+asked s = matching (catalogueOf (s .args .skip) (s .args .rules .now)) (s .args .flow)
+
+abbrev deciding : tie.Start Inv-loop μ-loop → Policy
+deciding s = under (s .args .default) (numbersOf (s .args .list .now))
+
 loop-holds : tie.Need-loop-holds Inv-loop μ-loop
 loop-holds c =
-    let a = c .before .before .before .args in (
-      omega arith,
-      rw (sub-self (c .listed .result)) (passed-none (matching (catalogueOf (a .skip) (a .rules .now)) (a .flow)) (numbersOf (a .list .now))),
-    )
+    let s = c .before .before .before in
+    (omega arith, rw (sub-self (c .listed .result)) (passed-none (asked s) (deciding s)))
 
 sub-k : tie.Need-sub-k Inv-loop μ-loop
 sub-k c = omega arith
@@ -45,10 +50,10 @@ returns c =
     let head = c .before .before .before .before .before in
     let read = c .before .before .before .number-at in
     let test = c .before .before .hit in
-    let a = start head .args in
+    let s = start head in
     rw (c .action .ensures)
-    (sym (decides-here (matching (catalogueOf (a .skip) (a .rules .now)) (a .flow)) (numbersOf (a .list .now))
-    (head .before .listed .result - head .loop .left) (read .result) (test .result) (head .loop .inv .1) (omega arith) (read .ensures) (test .ensures) (c .before .if1 .taken)))
+    (sym (decides-here (asked s) (deciding s) (head .before .listed .result - head .loop .left) (read .result) (test .result)
+    (head .loop .inv .1) (omega arith) (read .ensures) (test .ensures) (c .before .if1 .taken)))
 
 sub-left : tie.Need-sub-left Inv-loop μ-loop
 sub-left c = omega arith
@@ -62,13 +67,13 @@ loop-again c =
     let head = c .before .before .before .before in
     let read = c .before .before .number-at in
     let test = c .before .hit in
-    let a = start head .args in
+    let s = start head in
     let count = head .before .listed .result in
     let left = head .loop .left in
     let next : count - (left - 1) ≡ count - left + 1 = omega arith in (
       omega arith,
       rw next
-          (passed-more (matching (catalogueOf (a .skip) (a .rules .now)) (a .flow)) (numbersOf (a .list .now)) (count - left) (read .result)
+          (passed-more (asked s) (deciding s) (count - left) (read .result)
           (test .result) (head .loop .inv .1) (omega arith) (read .ensures) (test .ensures) (c .if1 .left)),
     )
 
@@ -76,8 +81,8 @@ returns-2 : tie.Need-returns-2 Inv-loop μ-loop
 unfolding matching
 returns-2 c =
     let head = c .before in
-    let a = c .before .before .before .before .before .args in
-    sym (decides-none (matching (catalogueOf (a .skip) (a .rules .now)) (a .flow)) (numbersOf (a .list .now))
+    let s = start head in
+    sym (decides-none (asked s) (deciding s)
     (head .before .listed .result - head .loop .left) (head .loop .inv .1) (omega arith))
 
 listed-requires : tie.Need-listed-requires Inv-loop μ-loop

@@ -2,7 +2,7 @@
 use Prim.Native.Nat.{ℕ}
 use mathlib.Core.Path.{refl}
 use mathlib.Core.List.{List}
-use Rattle.policy.specs.Policy.{decide, matching}
+use Rattle.policy.specs.Policy.{under, decide, matching}
 use Rattle.policy.specs.declared.Decision.{Decision}
 use Rattle.policy.specs.declared.Flow.{Flow}
 use Rattle.deployment.specs.Values.{numbersOf}
@@ -14,7 +14,8 @@ use Rattle.flows.proofs.decide_into.Tie as tie
 
 -- what decides a flow
 abbrev decides : tie.Start → Flow → Decision
-decides start flow = let a = start .args in decide (matching (catalogueOf (a .skip) (a .rules .now)) flow) (numbersOf (a .policy .now))
+decides start flow =
+    let a = start .args in decide (matching (catalogueOf (a .skip) (a .rules .now)) flow) (under (a .default) (numbersOf (a .policy .now)))
 
 returns : tie.Need-returns
 returns c =

@@ -5,7 +5,8 @@ use native.Mathlib.Omega.{arith}
 use mathlib.Core.Path.{_≡_}
 use mathlib.Core.List.{List}
 use lib.ListN.{length}
-use Rattle.policy.specs.Policy.{decide, matching}
+use Rattle.policy.specs.Policy.{under, decide, matching}
+use Rattle.policy.specs.declared.Action.{Action}
 use Rattle.policy.specs.declared.Decision.{Decision}
 use Rattle.policy.specs.declared.Flow.{Flow}
 use Rattle.deployment.specs.Values.{numbersOf}
@@ -17,19 +18,19 @@ use Rattle.flows.proofs.put_decisions.Statement.{statement}
 use Rattle.flows.proofs.put_decisions.Tie as tie
 
 -- what decides a flow
-abbrev decides : List ℕ → ℕ → List ℕ → Flow → Decision
-decides rules skip policy flow = decide (matching (catalogueOf skip rules) flow) (numbersOf policy)
+abbrev decides : List ℕ → ℕ → List ℕ → Action → Flow → Decision
+decides rules skip policy default flow = decide (matching (catalogueOf skip rules) flow) (under default (numbersOf policy))
 
 abbrev Inv-loop : tie.InvT-loop
-Inv-loop rules skip policy flows place₀ count k₀ place k = (k ≤ count) × Put (decides rules skip policy) flows place₀ place k
+Inv-loop rules skip policy default flows place₀ count k₀ place k = (k ≤ count) × Put (decides rules skip policy default) flows place₀ place k
 
 abbrev μ-loop : tie.MeasureT-loop
-μ-loop rules skip policy flows place₀ count k₀ place k = count - k
+μ-loop rules skip policy default flows place₀ count k₀ place k = count - k
 
 loop-holds : tie.Need-loop-holds Inv-loop μ-loop
 loop-holds c =
     let a = c .before .before .before .before .args in
-    (zero-le, none-put (decides (a .rules .now) (a .skip) (a .policy .now)) (a .flows .now) (a .place .now))
+    (zero-le, none-put (decides (a .rules .now) (a .skip) (a .policy .now) (a .default)) (a .flows .now) (a .place .now))
 
 loop-again : tie.Need-loop-again Inv-loop μ-loop
 loop-again c =
@@ -42,7 +43,7 @@ loop-again c =
     let a = test .before .before .before .before .before .before .args in (
       omega (arith, test .loop-test .taken),
       rw (put .store .ensures)
-          (one-more-put (decides (a .rules .now) (a .skip) (a .policy .now)) (a .flows .now) (a .place .now) (at .place) (at .k)
+          (one-more-put (decides (a .rules .now) (a .skip) (a .policy .now) (a .default)) (a .flows .now) (a .place .now) (at .place) (at .k)
           (omega (arith, test .loop-test .taken)) (read .flow-at .ensures)
           (decided .decided .ensures) (told .decision-bytes .ensures) (at .inv .1)),
     )
@@ -67,7 +68,7 @@ returns c =
     let at = c .before .loop in
     let start = c .before .before .before .before .before .before in
     let a = start .args in
-    all-put (decides (a .rules .now) (a .skip) (a .policy .now)) (a .flows .now) (a .place .now) (at .place) (at .k)
+    all-put (decides (a .rules .now) (a .skip) (a .policy .now) (a .default)) (a .flows .now) (a .place .now) (at .place) (at .k)
     (omega (arith, at .inv .0, c .loop-test .left)) (start .pre) (at .inv .1)
 
 decided-requires : tie.Need-decided-requires Inv-loop μ-loop

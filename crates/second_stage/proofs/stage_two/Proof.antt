@@ -9,7 +9,7 @@ use mathlib.Core.List.{List}
 use borrow.Author.Needs.{needs}
 use borrow.Author.Tests.{not-true, not-false}
 use lib.ListN.{length, getD}
-use Rattle.policy.specs.Claims.{Policy}
+use Rattle.policy.specs.Claims.{Admitted}
 use Rattle.policy.proofs.Lists.{place-in}
 use Rattle.running.specs.Running.{view}
 use Rattle.places.specs.Places.{Says}
@@ -25,7 +25,7 @@ use Rattle.second_stage.proofs.stage_two.Tie as tie
 
 abbrev Inv-loop : tie.InvT-loop
 Inv-loop field₀ to settled list₀ sent₀ len k₀ field list sent k =
-    (target : List ℕ) → Policy 1024 target → Says to target → Pass target settled (view list₀) field₀ sent₀ list sent field (len - k)
+    (target : List ℕ) → Admitted 1024 target → Says to target → Pass target settled (view list₀) field₀ sent₀ list sent field (len - k)
 
 abbrev μ-loop : tie.MeasureT-loop
 μ-loop field₀ to settled list₀ sent₀ len k₀ field list sent k = len - k

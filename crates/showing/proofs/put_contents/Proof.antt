@@ -29,20 +29,24 @@ known c = c .before .before .before
 abbrev at-catalogue : tie.After-put-policies → tie.After-put-catalogue
 at-catalogue c = c .before .before .before .before
 
-abbrev at-policies : tie.After-put-keep → tie.After-put-policies
+abbrev at-policies : tie.After-put-default → tie.After-put-policies
 at-policies c = c .before .before .before .before
+
+abbrev at-default : tie.After-put-keep → tie.After-put-default
+at-default c = c .before .before .before .before
 
 abbrev at-keep : tie.After-put-script → tie.After-put-keep
 at-keep c = c .before .before .before .before
 
 put-script-requires : tie.Need-put-script-requires
-put-script-requires c κs = let keep = c .before .before .before in script-reads (held (known (at-catalogue (at-policies keep))) .stands)
+put-script-requires c κs = let keep = c .before .before .before in script-reads (held (known (at-catalogue (at-policies (at-default keep)))) .stands)
 
 returns : tie.Need-returns
 returns c =
     let script = c .before .before in
     let keep = at-keep script in
-    let policies = at-policies keep in
+    let default = at-default keep in
+    let policies = at-policies default in
     let catalogue = at-catalogue policies in
     let start = known catalogue in
     let holds = held start in
@@ -52,7 +56,8 @@ returns c =
     puts-whole
     (rw (← parts-printed (holds .stands) (holds .is))
     (puts-more (catalogue .put-catalogue .ensures)
-    (puts-more {piece = both} (policies .put-policies .ensures) (puts-more (keep .put-keep .ensures) (script .put-script .ensures)))))
+    (puts-more {piece = both} (policies .put-policies .ensures)
+    (puts-more (default .put-default .ensures) (puts-more (keep .put-keep .ensures) (script .put-script .ensures))))))
     (printed-short (holds .stands) (holds .is)) (omega arith)
 
 put-catalogue-requires : tie.Need-put-catalogue-requires
@@ -60,6 +65,9 @@ put-catalogue-requires c κs = search needs
 
 put-policies-requires : tie.Need-put-policies-requires
 put-policies-requires c κs = search needs
+
+put-default-requires : tie.Need-put-default-requires
+put-default-requires c κs = search needs
 
 put-keep-requires : tie.Need-put-keep-requires
 put-keep-requires c κs = search needs
@@ -73,6 +81,7 @@ put-contents-spec =
     (tie.spec
     put-catalogue-requires
     put-policies-requires
+    put-default-requires
     put-keep-requires
     put-script-requires
     same-length

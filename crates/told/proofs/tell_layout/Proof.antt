@@ -12,17 +12,21 @@ as-flag : (is : Bool) → boolByte is ≡ flag is
 as-flag true = refl
 as-flag false = refl
 
+-- before the layout's fields are looked at
+abbrev start : tie.After-store-arg → tie.Start
+start c = c .before .before .before .before .before
+
 returns : tie.Need-returns
 returns c =
     let at-store = c .before .before in
-    let at-fields = at-store .before .before .before in
-    let l = at-fields .before .before .before .args .layout in
-    record { number = refl; answer = rw (as-flag (l .«has_keep»), as-flag (l .«has_script»)) at (at-store .store .ensures) }
+    let l = start (at-store .before .before) .args .layout in
+    record { number = refl; answer = rw (as-flag (l .«has_default»), as-flag (l .«has_keep»), as-flag (l .«has_script»)) at (at-store .store .ensures) }
 
 pub tell-layout-spec : {M : Type 1} → statement M
 tell-layout-spec =
     tie.close
     (tie.spec
+    (λ c. search needs)
     (λ c. search needs)
     (λ c. search needs)
     (λ c. search needs)

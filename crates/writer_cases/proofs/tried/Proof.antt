@@ -20,6 +20,9 @@ two-requires c κs = search needs
 cast-size : tie.Need-cast-size
 cast-size c = search needs
 
+shared-slice-read-has-default : tie.Need-shared-slice-read-has-default
+shared-slice-read-has-default c = search needs
+
 shared-slice-read-has-keep : tie.Need-shared-slice-read-has-keep
 shared-slice-read-has-keep c = search needs
 
@@ -38,6 +41,9 @@ next-place-requires-3 c κs = search needs
 next-place-requires-4 : tie.Need-next-place-requires-4
 next-place-requires-4 c κs = search needs
 
+next-place-requires-5 : tie.Need-next-place-requires-5
+next-place-requires-5 c κs = search needs
+
 bytes-at-requires : tie.Need-bytes-at-requires
 bytes-at-requires c κs = search needs
 
@@ -52,6 +58,9 @@ bytes-at-requires-4 c κs = search needs
 
 bytes-at-requires-5 : tie.Need-bytes-at-requires-5
 bytes-at-requires-5 c κs = search needs
+
+bytes-at-requires-6 : tie.Need-bytes-at-requires-6
+bytes-at-requires-6 c κs = search needs
 
 slice-relend-prefix-write : tie.Need-slice-relend-prefix-write
 slice-relend-prefix-write c = search needs
@@ -73,17 +82,20 @@ tried-spec =
     shared-slice-read-two-2
     two-requires
     cast-size
+    shared-slice-read-has-default
     shared-slice-read-has-keep
     shared-slice-read-has-script
     next-place-requires
     next-place-requires-2
     next-place-requires-3
     next-place-requires-4
+    next-place-requires-5
     bytes-at-requires
     bytes-at-requires-2
     bytes-at-requires-3
     bytes-at-requires-4
     bytes-at-requires-5
+    bytes-at-requires-6
     slice-relend-prefix-write
     slice-aggregate-write
     write-requires

@@ -39,12 +39,13 @@ returns c =
 
 returns-2 : tie.Need-returns-2
 returns-2 c =
-    let rules = c .before .before .before in
+    let policy = c .before .before in
+    let rules = policy .before .before in
     let asked = rules .before in
     let told = asked .before in
     let a = told .before .before .before .before .before .args in
-    decided-file (stands told) (a .of-target) (asked .asked .ensures) (rules .rules-of .ensures) (c .before .before .value .ensures)
-    (c .before .value2 .ensures) (a .flow) (c .decided .ensures)
+    decided-file (stands told) (a .of-target) (asked .asked .ensures) (rules .rules-of .ensures) (policy .before .value .ensures)
+    (policy .value2 .ensures) (c .before .default-of .ensures) (a .flow) (c .decided .ensures)
 
 read-requires : tie.Need-read-requires
 read-requires c κs = search needs
@@ -67,6 +68,9 @@ cast-decided c = search needs
 value-requires-2 : tie.Need-value-requires-2
 value-requires-2 c κs = search needs
 
+default-of-requires : tie.Need-default-of-requires
+default-of-requires c κs = search needs
+
 decided-requires : tie.Need-decided-requires
 decided-requires c κs = search needs
 
@@ -82,6 +86,7 @@ decide-spec =
     value-requires
     cast-decided
     value-requires-2
+    default-of-requires
     decided-requires
     returns
     returns-2)

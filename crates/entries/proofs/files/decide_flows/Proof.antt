@@ -43,13 +43,14 @@ returns c =
 returns-2 : tie.Need-returns-2
 returns-2 c =
     let put = c .before .before in
-    let policy = put .before .before in
+    let defaulted = put .before .before in
+    let policy = defaulted .before in
     let rules = policy .before .before in
     let asked = rules .before in
     let told = asked .before in
     let a = start (told .before .before .before) .args in
     flows-of-file (stands told) (a .of-target) (asked .asked .ensures) (rules .rules-of .ensures) (policy .before .value .ensures)
-    (policy .value2 .ensures) (a .flows .now) (a .place .now) (put .decide-into .ensures)
+    (policy .value2 .ensures) (defaulted .default-of .ensures) (a .flows .now) (a .place .now) (put .decide-into .ensures)
 
 read-requires : tie.Need-read-requires
 read-requires c κs = search needs
@@ -72,6 +73,9 @@ cast-decide-into c = search needs
 value-requires-2 : tie.Need-value-requires-2
 value-requires-2 c κs = search needs
 
+default-of-requires : tie.Need-default-of-requires
+default-of-requires c κs = search needs
+
 decide-into-requires : tie.Need-decide-into-requires
 decide-into-requires c κs = search needs
 
@@ -90,6 +94,7 @@ decide-flows-spec =
     value-requires
     cast-decide-into
     value-requires-2
+    default-of-requires
     decide-into-requires
     returns
     same-length

@@ -11,7 +11,7 @@ use Rattle.entries.proofs.lists.plan_one.Statement.{statement}
 use Rattle.entries.proofs.lists.plan_one.Tie as tie
 
 abbrev start : tie.After-values-checked → tie.Start
-start c = c .before .before .before .before .before .before .before
+start c = c .before .before .before .before .before .before .before .before
 
 abbrev lent : tie.After-values-checked → Lent
 lent c =
@@ -20,6 +20,8 @@ lent c =
       rules = args .rules .now;
       initial = args .initial .now;
       target = args .target .now;
+      has-default = args .has-default;
+      default = args .default .now;
       has-keep = args .has-keep;
       keep = args .keep .now;
       has-script = args .has-script;
@@ -32,15 +34,17 @@ passed c =
     let at = c .before .before in
     let script-known = at .before .before in
     let keep-known = script-known .before in
-    let target-known = keep-known .before in
+    let default-known = keep-known .before in
+    let target-known = default-known .before in
     let initial-known = target-known .before in
     let rules-known = initial-known .before in
     values-passed (lent at) (at .values-checked .ensures)
     (elements-are-bytes _ (λ i. omega (arith, rules-known .shared-slice-known .given i)))
     (elements-are-bytes _ (λ i. omega (arith, initial-known .shared-slice-known2 .given i)))
     (elements-are-bytes _ (λ i. omega (arith, target-known .shared-slice-known3 .given i)))
-    (elements-are-bytes _ (λ i. omega (arith, keep-known .shared-slice-known4 .given i)))
-    (elements-are-bytes _ (λ i. omega (arith, script-known .shared-slice-known5 .given i)))
+    (elements-are-bytes _ (λ i. omega (arith, default-known .shared-slice-known4 .given i)))
+    (elements-are-bytes _ (λ i. omega (arith, keep-known .shared-slice-known5 .given i)))
+    (elements-are-bytes _ (λ i. omega (arith, script-known .shared-slice-known6 .given i)))
     (c .enum-told .given .1)
 
 returns : tie.Need-returns

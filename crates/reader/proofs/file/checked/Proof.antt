@@ -4,7 +4,7 @@ use mathlib.Core.Path.{_∙_}
 use borrow.Author.Needs.{needs}
 use Rattle.deployment.specs.Catalogue.{catalogueOf}
 use Rattle.catalogue.proofs.Catalogue.{nothing-missed}
-use Rattle.reader.proofs.Checks.{checked-rule, checked-policy, checked-keep, checked-script}
+use Rattle.reader.proofs.Checks.{checked-rule, checked-policy, checked-default, checked-keep, checked-script}
 use Rattle.reader.proofs.file.checked.Statement.{statement}
 use Rattle.reader.proofs.file.checked.Tie as tie
 
@@ -18,35 +18,50 @@ returns c =
     ∙ nothing-missed count (a .differing) (catalogueOf 3 (a .file .now)) (a .bytes .now) (start .pre (c .before .if1 .taken))
     ∙ checked-rule (a .file .now) (a .progress) f begun (a .tag) (a .bytes .now) read (c .before .if1 .taken)
 
+-- where the tag is not that of a rule
+abbrev start : tie.Else1 → tie.Start
+start c = c .before .before .before
+
 returns-2 : tie.Need-returns-2
 returns-2 c =
-    let kept = c .before .before .before in
-    let a = kept .before .before .before .before .args in
+    let a = start (c .before .before) .args in
     λ f begun read.
-    c .keep-checked .ensures
-    ∙ checked-keep (a .file .now) (a .progress) f begun (a .tag) (a .bytes .now) read _ _
-    (c .before .before .value .ensures) (c .before .value2 .ensures) (kept .if2 .taken)
+    c .default-checked .ensures ∙ checked-default (a .file .now) (a .progress) f begun (a .tag) (a .bytes .now) read (c .before .if2 .taken)
 
 returns-3 : tie.Need-returns-3
 returns-3 c =
-    let a = c .before .before .before .before .before .before .args in
+    let kept = c .before .before .before in
+    let a = start (kept .before .before) .args in
     λ f begun read.
-    c .script-checked .ensures ∙ checked-script (a .file .now) (a .progress) f begun (a .tag) (a .bytes .now) read (c .before .if3 .taken)
+    c .keep-checked .ensures
+    ∙ checked-keep (a .file .now) (a .progress) f begun (a .tag) (a .bytes .now) read _ _
+    (c .before .before .value .ensures) (c .before .value2 .ensures) (kept .if3 .taken)
 
 returns-4 : tie.Need-returns-4
 returns-4 c =
     let no-keep = c .before .before in
-    let a = no-keep .before .before .before .before .args in
+    let a = start (no-keep .before .before) .args in
+    λ f begun read.
+    c .script-checked .ensures ∙ checked-script (a .file .now) (a .progress) f begun (a .tag) (a .bytes .now) read (c .before .if4 .taken)
+
+returns-5 : tie.Need-returns-5
+returns-5 c =
+    let no-keep = c .before .before in
+    let no-default = no-keep .before in
+    let a = start (no-default .before) .args in
     λ f begun read.
     c .policy-checked .ensures
     ∙ checked-policy (a .file .now) (a .progress) f begun (a .tag) (a .bytes .now) read
-    (no-keep .before .if1 .left) (no-keep .if2 .left) (c .before .if3 .left)
+    (no-default .before .if1 .left) (no-default .if2 .left) (no-keep .if3 .left) (c .before .if4 .left)
 
 cast-rule-tested : tie.Need-cast-rule-tested
 cast-rule-tested c = search needs
 
 rule-tested-requires : tie.Need-rule-tested-requires
 rule-tested-requires c κs = search needs
+
+default-checked-requires : tie.Need-default-checked-requires
+default-checked-requires c κs = search needs
 
 value-requires : tie.Need-value-requires
 value-requires c κs = search needs
@@ -70,11 +85,13 @@ checked-spec =
     cast-rule-tested
     rule-tested-requires
     returns
+    default-checked-requires
+    returns-2
     value-requires
     value-requires-2
     keep-checked-requires
-    returns-2
-    script-checked-requires
     returns-3
+    script-checked-requires
+    returns-4
     policy-checked-requires
-    returns-4)
+    returns-5)

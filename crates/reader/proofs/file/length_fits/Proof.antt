@@ -1,4 +1,4 @@
--- `length_fits` meets its contract: the length of a rule, of a script, or of a list, by the tag. Assumes nothing.
+-- `length_fits` meets its contract: the length of a rule, of a script, of a default, or of a list, by the tag. Assumes nothing.
 use mathlib.Core.Path.{_∙_}
 use lib.Dec.{eqb}
 use borrow.Author.Tests.{ne-eqb}
@@ -22,8 +22,17 @@ returns-2 c =
 returns-3 : tie.Need-returns-3
 unfolding lengthFits
 returns-3 c =
-    let tag = c .before .before .before .args .tag in
-    c .list-fits .ensures ∙ rw (ne-eqb tag 1 (c .before .before .if1 .left), ne-eqb tag 5 (c .before .if2 .left))
+    let size = c .before .before .before .args .size in
+    rw (c .if3 .taken) (byTest (eqb size 1) (λ t. rw t) (λ f. rw f))
+
+returns-4 : tie.Need-returns-4
+unfolding lengthFits
+returns-4 c =
+    let no-script = c .before .before in
+    let no-rule = no-script .before in
+    let tag = no-rule .before .args .tag in
+    c .list-fits .ensures
+    ∙ rw (ne-eqb tag 1 (no-rule .if1 .left), ne-eqb tag 5 (no-script .if2 .left), ne-eqb tag 6 (c .before .if3 .left))
 
 script-fits-requires : tie.Need-script-fits-requires
 script-fits-requires c κs = search needs
@@ -33,4 +42,4 @@ list-fits-requires c κs = search needs
 
 pub length-fits-spec : {M : Type 1} → statement M
 length-fits-spec =
-    tie.close (tie.spec returns script-fits-requires returns-2 list-fits-requires returns-3)
+    tie.close (tie.spec returns script-fits-requires returns-2 returns-3 list-fits-requires returns-4)

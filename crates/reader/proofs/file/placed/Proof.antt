@@ -1,5 +1,13 @@
 -- `placed` meets its contract: the tag says which field comes, and its place is the only one that changes. Assumes nothing.
-use Rattle.reader.proofs.OneMore.{more-stands, placed-rule, placed-initial, placed-target, placed-keep, placed-script}
+use Rattle.reader.proofs.OneMore.{
+  more-stands,
+  placed-rule,
+  placed-initial,
+  placed-target,
+  placed-default,
+  placed-keep,
+  placed-script,
+}
 use Prim.Native.Nat.{ℕ}
 use mathlib.Core.Path.{subst}
 use borrow.Author.Needs.{needs}
@@ -24,21 +32,33 @@ returns-3 c =
     let a = c .before .before .before .args in
     λ f g value more l w. placed-target (a .layout) (a .span) (subst (λ (t : ℕ). More f t value g) (c .if3 .taken) more) l w
 
+-- where the tag is neither that of a rule nor that of a policy
+abbrev start : tie.Else3 → tie.Start
+start c = c .before .before .before
+
 returns-4 : tie.Need-returns-4
 returns-4 c =
-    let a = c .before .before .before .before .args in
-    λ f g value more l w. placed-keep (a .layout) (a .span) (subst (λ (t : ℕ). More f t value g) (c .if4 .taken) more) l w
+    let a = start (c .before) .args in
+    λ f g value more l w. placed-default (a .layout) (a .span) (subst (λ (t : ℕ). More f t value g) (c .if4 .taken) more) l w
 
 returns-5 : tie.Need-returns-5
 returns-5 c =
-    let a = c .before .before .before .before .args in
+    let a = start (c .before .before) .args in
+    λ f g value more l w. placed-keep (a .layout) (a .span) (subst (λ (t : ℕ). More f t value g) (c .if5 .taken) more) l w
+
+returns-6 : tie.Need-returns-6
+returns-6 c =
+    let no-default = c .before in
+    let no-target = no-default .before in
+    let no-initial = no-target .before in
+    let a = start no-target .args in
     λ f g value more l w.
     let e = script-left (lastTag f) (more-stands more)
-    (c .before .before .before .if1 .left) (c .before .before .if2 .left) (c .before .if3 .left) (c .if4 .left) in
+    (no-initial .before .if1 .left) (no-initial .if2 .left) (no-target .if3 .left) (no-default .if4 .left) (c .if5 .left) in
     placed-script (a .layout) (a .span) (subst (λ (t : ℕ). More f t value g) e more) l w
 
 add-next : tie.Need-add-next
 add-next c = search needs
 
 pub placed-spec : {M : Type 1} → statement M
-placed-spec = tie.close (tie.spec add-next returns returns-2 returns-3 returns-4 returns-5)
+placed-spec = tie.close (tie.spec add-next returns returns-2 returns-3 returns-4 returns-5 returns-6)
