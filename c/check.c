@@ -612,6 +612,293 @@ static void check_plan_default(void) {
     turned("judge 50 before 10", pageoriole_judge(THREE, I3, T3, HERE(0), HERE(0, 1, 0, 0), SCRIPT_TWO, ANSWER), PAGEORIOLE_DEFAULT);
 }
 
+/* ---- console text ---- */
+
+/* A call that writes: how many bytes it tells, and every byte of the place. */
+static void compare_written(const char *what, uint32_t number, const uint8_t *bytes, size_t count) {
+    compare(what, number, PAGEORIOLE_DONE, VALUES(count));
+    holds(what, bytes, count);
+}
+
+/* A call that is turned away: its number, where, and that the place is as it was. */
+static void compare_turned(const char *what, uint32_t number, uint32_t wanted, uint64_t at) {
+    compare(what, number, wanted, VALUES(at));
+    holds(what, NOTHING);
+}
+
+#define wrote(what, call, ...) (ready(), compare_written(what, call, __VA_ARGS__))
+#define refused(what, call, ...) (ready(), compare_turned(what, call, __VA_ARGS__))
+
+/* No room at all: what is refused ahead of 13 is refused here too. */
+#define NO_PLACE place, (size_t)0
+#define FOR_A false
+#define FOR_B true
+
+/* Both plans of the first example as text. */
+#define LINES_ONE TEXT("del 3\ndel 2\ndel 0\napp 0\napp 4\napp 3\n")
+#define LINES_TWO_A TEXT("ins 3 4\ndel 4\nmov 1 2\n")
+#define LINES_TWO_B TEXT("ins 3 4\ndel 4\nmove 1 before 3\n")
+
+/* Moves to later places, to the same and to earlier ones, with the least and the greatest numbers. */
+#define MOVES                                                                                                                                  \
+    2, 5, 0, 1, 255, 255, 5, 0, 2, 0, 2, 5, 0, 3, 0, 1, 5, 255, 255, 255, 255, 5, 0, 0, 0, 0, 5, 0, 0, 255, 255, 5, 255, 255, 0, 0
+#define MOVES_A TEXT("mov 1 65535\nmov 2 2\nmov 3 1\nmov 65535 65535\nmov 0 0\nmov 0 65535\nmov 65535 0\n")
+#define MOVES_B                                                                                                                                \
+    TEXT("move 1 before 65536\nmove 2 before 2\nmove 3 before 1\nmove 65535 before 65535\nmove 0 before 0\nmove 0 before 65536\n"              \
+         "move 65535 before 0\n")
+/* The same moves by the other number where there are two: one past the rule itself. */
+#define MOVES_B_AGAIN                                                                                                                          \
+    TEXT("move 1 before 65536\nmove 2 before 3\nmove 3 before 1\nmove 65535 before 65536\nmove 0 before 1\nmove 0 before 65536\n"              \
+         "move 65535 before 0\n")
+
+static void check_script_text(void) {
+    static uint8_t too_long[1 + 5 * 2049] = {1};
+    for (int maker = 0; maker < 2; maker++) {
+        wrote("text of type 1", pageoriole_script_text(SCRIPT_ONE, maker, PLACE, ANSWER), LINES_ONE);
+        wrote("text of no command, type 1", pageoriole_script_text(BYTES(1), maker, NOTHING, ANSWER), NOTHING);
+        wrote("text of no command, type 2", pageoriole_script_text(BYTES(2), maker, PLACE, ANSWER), NOTHING);
+        refused("text 4, no byte", pageoriole_script_text(NOTHING, maker, NO_PLACE, ANSWER), PAGEORIOLE_LENGTH, 0);
+        refused("text 4, half a command", pageoriole_script_text(BYTES(1, 1, 0, 1), maker, NO_PLACE, ANSWER), PAGEORIOLE_LENGTH, 0);
+        refused("text 4, 2,049 commands", pageoriole_script_text(too_long, sizeof too_long, maker, NO_PLACE, ANSWER), PAGEORIOLE_LENGTH, 0);
+        refused("text 4 before 11", pageoriole_script_text(BYTES(3, 0), maker, NO_PLACE, ANSWER), PAGEORIOLE_LENGTH, 0);
+        refused("text 11, type", pageoriole_script_text(BYTES(3), maker, NO_PLACE, ANSWER), PAGEORIOLE_CODING, 0);
+        refused("text 11, code", pageoriole_script_text(BYTES(2, 1, 0, 1, 0, 0), maker, NO_PLACE, ANSWER), PAGEORIOLE_CODING, 0);
+        refused("text 11, number", pageoriole_script_text(BYTES(1, 1, 0, 1, 0, 1), maker, NO_PLACE, ANSWER), PAGEORIOLE_CODING, 0);
+        refused("text 13, type 1", pageoriole_script_text(SCRIPT_ONE, maker, place, 35, ANSWER), PAGEORIOLE_ROOM, 36);
+    }
+    wrote("text of type 2, A", pageoriole_script_text(SCRIPT_TWO, FOR_A, PLACE, ANSWER), LINES_TWO_A);
+    wrote("text of type 2, B", pageoriole_script_text(SCRIPT_TWO, FOR_B, PLACE, ANSWER), LINES_TWO_B);
+    wrote("text with just room, A", pageoriole_script_text(SCRIPT_TWO, FOR_A, place, 22, ANSWER), LINES_TWO_A);
+    wrote("text with just room, B", pageoriole_script_text(SCRIPT_TWO, FOR_B, place, 30, ANSWER), LINES_TWO_B);
+    refused("text 13, A", pageoriole_script_text(SCRIPT_TWO, FOR_A, place, 21, ANSWER), PAGEORIOLE_ROOM, 22);
+    refused("text 13, B", pageoriole_script_text(SCRIPT_TWO, FOR_B, place, 29, ANSWER), PAGEORIOLE_ROOM, 30);
+    wrote("text of moves, A", pageoriole_script_text(BYTES(MOVES), FOR_A, PLACE, ANSWER), MOVES_A);
+    wrote("text of moves, B", pageoriole_script_text(BYTES(MOVES), FOR_B, PLACE, ANSWER), MOVES_B);
+    told("text, no word of room", pageoriole_script_text(SCRIPT_TWO, FOR_B, PLACE, NULL, 0), PAGEORIOLE_DONE, NULL, 0);
+}
+
+/* A file for each number that every function over a file can return, and where. */
+static const struct {
+    uint32_t number;
+    uint64_t at;
+} refusals[] = {{1, 161}, {2, 0}, {3, 0}, {4, 30}, {5, 30}, {6, 60}, {7, 30720}, {8, 60}, {9, 60}, {10, 108}, {11, 172}, {50, 172}};
+enum { REFUSALS = sizeof refusals / sizeof *refusals };
+
+static void make_refused(uint32_t number) {
+    switch (number) {
+    case 1: first_example(), made_size -= 1; break;
+    case 2: begin(), field(3, NOTHING); break;
+    case 3: begin(); break;
+    case 4: catalogue(1), field(2, BYTES(0)); break;
+    case 5: catalogue(2), made[RULE_FIELD + 3] = 2; break;
+    case 6: catalogue(2), field(1, rules, PAGEORIOLE_RULE); break;
+    case 7: catalogue(PAGEORIOLE_RULES + 1); break;
+    case 8: catalogue(2), field(2, BYTES(0, 2)); break;
+    case 9: catalogue(2), field(2, BYTES(0, 1, 0, 1)); break;
+    case 10: catalogue(3), field(2, I3), field(3, T3), field(4, BYTES(0, 1, 0, 0)); break;
+    case 11: first_example(), field(5, BYTES(1, 3, 0, 1, 0, 1)); break;
+    default: with_default(BYTES(0));
+    }
+}
+
+static void check_text_of_refused(void) {
+    for (size_t k = 0; k < REFUSALS; k++) {
+        make_refused(refusals[k].number);
+        for (int maker = 0; maker < 2; maker++) {
+            refused("script's text, refused", pageoriole_script_text_file(FILE_MADE, maker, NO_PLACE, ANSWER), refusals[k].number, refusals[k].at);
+            refused("plan one's text, refused", pageoriole_plan_one_text(FILE_MADE, maker, NO_PLACE, ANSWER), refusals[k].number, refusals[k].at);
+            refused("plan two's text, refused", pageoriole_plan_two_text(FILE_MADE, maker, NO_PLACE, ANSWER), refusals[k].number, refusals[k].at);
+        }
+    }
+}
+
+static void check_script_text_file(void) {
+    first_example();
+    refused("script's text 12, A", pageoriole_script_text_file(FILE_MADE, FOR_A, NO_PLACE, ANSWER), PAGEORIOLE_NO_SCRIPT, 172);
+    refused("script's text 12, B", pageoriole_script_text_file(FILE_MADE, FOR_B, NO_PLACE, ANSWER), PAGEORIOLE_NO_SCRIPT, 172);
+    field(5, SCRIPT_ONE);
+    wrote("script's text, type 1, A", pageoriole_script_text_file(FILE_MADE, FOR_A, PLACE, ANSWER), LINES_ONE);
+    wrote("script's text, type 1, B", pageoriole_script_text_file(FILE_MADE, FOR_B, PLACE, ANSWER), LINES_ONE);
+    with_default(BYTES(1));
+    field(5, SCRIPT_TWO);
+    wrote("script's text, type 2, A", pageoriole_script_text_file(FILE_MADE, FOR_A, PLACE, ANSWER), LINES_TWO_A);
+    wrote("script's text, type 2, B", pageoriole_script_text_file(FILE_MADE, FOR_B, PLACE, ANSWER), LINES_TWO_B);
+    refused("script's text 13, A", pageoriole_script_text_file(FILE_MADE, FOR_A, place, 21, ANSWER), PAGEORIOLE_ROOM, 22);
+    refused("script's text 13, B", pageoriole_script_text_file(FILE_MADE, FOR_B, place, 29, ANSWER), PAGEORIOLE_ROOM, 30);
+}
+
+/* A script in the file is of no matter to its plans. */
+static void check_plan_texts(void) {
+    first_example();
+    field(5, BYTES(MOVES));
+    for (int maker = 0; maker < 2; maker++) {
+        wrote("plan one's text", pageoriole_plan_one_text(FILE_MADE, maker, PLACE, ANSWER), LINES_ONE);
+        refused("plan one's text 13", pageoriole_plan_one_text(FILE_MADE, maker, place, 35, ANSWER), PAGEORIOLE_ROOM, 36);
+    }
+    wrote("plan two's text, A", pageoriole_plan_two_text(FILE_MADE, FOR_A, PLACE, ANSWER), LINES_TWO_A);
+    wrote("plan two's text, B", pageoriole_plan_two_text(FILE_MADE, FOR_B, PLACE, ANSWER), LINES_TWO_B);
+    refused("plan two's text 13, A", pageoriole_plan_two_text(FILE_MADE, FOR_A, place, 21, ANSWER), PAGEORIOLE_ROOM, 22);
+    refused("plan two's text 13, B", pageoriole_plan_two_text(FILE_MADE, FOR_B, place, 29, ANSWER), PAGEORIOLE_ROOM, 30);
+    catalogue(3);
+    field(2, I3);
+    field(3, T3);
+    field(4, BYTES(0, 0, 0, 1));
+    wrote("plan two's text, a keep list, B", pageoriole_plan_two_text(FILE_MADE, FOR_B, PLACE, ANSWER), TEXT("move 3 before 1\n"));
+    catalogue(1);
+    field(2, NOTHING);
+    field(3, NOTHING);
+    wrote("plan one's text, no command", pageoriole_plan_one_text(FILE_MADE, FOR_A, NOTHING, ANSWER), NOTHING);
+    wrote("plan two's text, no command", pageoriole_plan_two_text(FILE_MADE, FOR_B, NOTHING, ANSWER), NOTHING);
+}
+
+static void check_text_script(void) {
+    for (int maker = 0; maker < 2; maker++) {
+        wrote("read, type 1", pageoriole_text_script(LINES_ONE, 1, maker, PLACE, ANSWER), PLAN_ONE);
+        wrote("read no line, type 1", pageoriole_text_script(NOTHING, 1, maker, PLACE, ANSWER), BYTES(5, 0, 1, 1));
+        wrote("read no line, type 2", pageoriole_text_script(NOTHING, 2, maker, place, 4, ANSWER), BYTES(5, 0, 1, 2));
+        wrote("read one text as type 1", pageoriole_text_script(TEXT("del 7\n"), 1, maker, PLACE, ANSWER), BYTES(5, 0, 6, 1, 2, 0, 7, 0, 0));
+        wrote("read the same as type 2", pageoriole_text_script(TEXT("del 7\n"), 2, maker, PLACE, ANSWER), BYTES(5, 0, 6, 2, 4, 0, 7, 0, 0));
+        refused("read 13, no line", pageoriole_text_script(NOTHING, 1, maker, place, 3, ANSWER), PAGEORIOLE_ROOM, 4);
+        refused("read 13, type 1", pageoriole_text_script(LINES_ONE, 1, maker, place, 33, ANSWER), PAGEORIOLE_ROOM, 34);
+        refused("read 11, type 0", pageoriole_text_script(TEXT("x"), 0, maker, NO_PLACE, ANSWER), PAGEORIOLE_CODING, 0);
+        refused("read 11, type 3", pageoriole_text_script(TEXT("del 65536\n"), 3, maker, NO_PLACE, ANSWER), PAGEORIOLE_CODING, 0);
+        refused("read 11, type 255", pageoriole_text_script(NOTHING, 255, maker, PLACE, ANSWER), PAGEORIOLE_CODING, 0);
+        refused("read 56 before a line's 55", pageoriole_text_script(TEXT("del 65536\nx\n"), 2, maker, PLACE, ANSWER), PAGEORIOLE_BEYOND, 1);
+        refused("read 55 before a line's 56", pageoriole_text_script(TEXT("x\ndel 65536\n"), 2, maker, PLACE, ANSWER), PAGEORIOLE_NO_COMMAND, 1);
+    }
+    wrote("read, A", pageoriole_text_script(LINES_TWO_A, 2, FOR_A, PLACE, ANSWER), PLAN_TWO);
+    wrote("read, B", pageoriole_text_script(LINES_TWO_B, 2, FOR_B, PLACE, ANSWER), PLAN_TWO);
+    refused("read 13, A", pageoriole_text_script(LINES_TWO_A, 2, FOR_A, place, 18, ANSWER), PAGEORIOLE_ROOM, 19);
+    refused("read 13, B", pageoriole_text_script(LINES_TWO_B, 2, FOR_B, place, 18, ANSWER), PAGEORIOLE_ROOM, 19);
+    wrote("read moves, A", pageoriole_text_script(MOVES_A, 2, FOR_A, PLACE, ANSWER), BYTES(5, 0, 36, MOVES));
+    wrote("read moves, B", pageoriole_text_script(MOVES_B, 2, FOR_B, PLACE, ANSWER), BYTES(5, 0, 36, MOVES));
+    wrote("read moves, B, once more", pageoriole_text_script(MOVES_B_AGAIN, 2, FOR_B, PLACE, ANSWER), BYTES(5, 0, 36, MOVES));
+    told("read, no word of room", pageoriole_text_script(LINES_TWO_B, 2, FOR_B, PLACE, NULL, 0), PAGEORIOLE_DONE, NULL, 0);
+}
+
+/* Lines that aren't read: the number, and in which types (1, 2, or 3 for both) and for which makers (1 for A, 2 for B, 3 for both). */
+static const struct {
+    uint32_t number;
+    int types, makers;
+    const uint8_t *line;
+    size_t size;
+} lines[] = {{55, 3, 3, TEXT("\n")},
+             {55, 3, 3, TEXT(" ")},
+             {55, 3, 3, TEXT("d")},
+             {55, 3, 3, TEXT("del")},
+             {55, 3, 3, TEXT("del\n")},
+             {55, 3, 3, TEXT("del \n")},
+             {55, 3, 3, TEXT("del 1")},
+             {55, 3, 3, TEXT("del 65536")},
+             {55, 3, 3, TEXT("del1\n")},
+             {55, 3, 3, TEXT("del  1\n")},
+             {55, 3, 3, TEXT("del\t1\n")},
+             {55, 3, 3, TEXT(" del 1\n")},
+             {55, 3, 3, TEXT("del 1 \n")},
+             {55, 3, 3, TEXT("del 1\r\n")},
+             {55, 3, 3, TEXT("del 01\n")},
+             {55, 3, 3, TEXT("del 00\n")},
+             {55, 3, 3, TEXT("del +1\n")},
+             {55, 3, 3, TEXT("del -1\n")},
+             {55, 3, 3, TEXT("del 0x1\n")},
+             {55, 3, 3, TEXT("del 1a\n")},
+             {55, 3, 3, TEXT("del 1/\n")},
+             {55, 3, 3, TEXT("del 1:\n")},
+             {55, 3, 3, TEXT("del 1\0\n")},
+             {55, 3, 3, TEXT("del 1 2\n")},
+             {55, 3, 3, TEXT("DEL 1\n")},
+             {55, 3, 3, TEXT("delete 1\n")},
+             {55, 3, 3, TEXT("1 del 1\n")},
+             {55, 3, 3, TEXT("del 65536 \n")},
+             {55, 3, 3, TEXT("del 065536\n")},
+             {55, 3, 3, TEXT("\xef\xbb\xbf" "del 1\n")},
+             {55, 1, 3, TEXT("app\n")},
+             {55, 1, 3, TEXT("app 1 2\n")},
+             {55, 1, 3, TEXT("ins 1 2\n")},
+             {55, 1, 3, TEXT("mov 1 2\n")},
+             {55, 1, 3, TEXT("move 1 before 2\n")},
+             {55, 2, 3, TEXT("app 1\n")},
+             {55, 2, 3, TEXT("ins 1\n")},
+             {55, 2, 3, TEXT("ins 1 \n")},
+             {55, 2, 3, TEXT("ins 1  2\n")},
+             {55, 2, 3, TEXT("ins 1 02\n")},
+             {55, 2, 3, TEXT("ins 1 2 3\n")},
+             {55, 2, 3, TEXT("ins 65536 x\n")},
+             {55, 2, 1, TEXT("mov 1\n")},
+             {55, 2, 1, TEXT("mov 1 before 2\n")},
+             {55, 2, 1, TEXT("move 1 2\n")},
+             {55, 2, 1, TEXT("move 1 before 2\n")},
+             {55, 2, 2, TEXT("mov 1 2\n")},
+             {55, 2, 2, TEXT("mov 1 before 2\n")},
+             {55, 2, 2, TEXT("move 1\n")},
+             {55, 2, 2, TEXT("move 1 2\n")},
+             {55, 2, 2, TEXT("move 1 before\n")},
+             {55, 2, 2, TEXT("move 1 before \n")},
+             {55, 2, 2, TEXT("move 1 before 02\n")},
+             {55, 2, 2, TEXT("move 1 before 2")},
+             {55, 2, 2, TEXT("move 1 before  2\n")},
+             {55, 2, 2, TEXT("move 1  before 2\n")},
+             {55, 2, 2, TEXT("move 1 behind 2\n")},
+             {55, 2, 2, TEXT("move before 2\n")},
+             {55, 2, 2, TEXT("move 65536 before\n")},
+             {56, 3, 3, TEXT("del 65536\n")},
+             {56, 3, 3, TEXT("del 70000\n")},
+             {56, 3, 3, TEXT("del 100000\n")},
+             {56, 3, 3, TEXT("del 4294967297\n")},
+             {56, 3, 3, TEXT("del 18446744073709551617\n")},
+             {56, 3, 3, TEXT("del 340282366920938463463374607431768211457\n")},
+             {56, 1, 3, TEXT("app 65536\n")},
+             {56, 2, 3, TEXT("ins 65536 1\n")},
+             {56, 2, 3, TEXT("ins 1 65536\n")},
+             {56, 2, 1, TEXT("mov 65536 1\n")},
+             {56, 2, 1, TEXT("mov 1 65536\n")},
+             {56, 2, 2, TEXT("move 65536 before 1\n")},
+             {56, 2, 2, TEXT("move 65536 before 65536\n")},
+             {56, 2, 2, TEXT("move 1 before 65537\n")},
+             {56, 2, 2, TEXT("move 1 before 18446744073709551617\n")}};
+enum { LINES = sizeof lines / sizeof *lines };
+
+/* Each of them alone, and as the third line. */
+static void check_line(size_t k, uint8_t type, bool maker) {
+    static uint8_t text[128] = "del 1\ndel 2\n";
+    const char *what = (const char *)lines[k].line;
+    memcpy(text + 12, lines[k].line, lines[k].size);
+    refused(what, pageoriole_text_script(lines[k].line, lines[k].size, type, maker, NO_PLACE, ANSWER), lines[k].number, 1);
+    refused(what, pageoriole_text_script(text, 12 + lines[k].size, type, maker, PLACE, ANSWER), lines[k].number, 3);
+}
+
+static void check_lines(void) {
+    for (size_t k = 0; k < LINES; k++)
+        for (int type = 1; type <= 2; type++)
+            for (int maker = 0; maker < 2; maker++)
+                if ((lines[k].types & type) != 0 && (lines[k].makers & (maker + 1)) != 0) check_line(k, (uint8_t)type, maker);
+}
+
+static size_t repeat(uint8_t *to, const uint8_t *bytes, size_t size, size_t times) {
+    for (size_t k = 0; k < times; k++) memcpy(to + k * size, bytes, size);
+    return times * size;
+}
+
+/* The longest text, of 2,048 commands, written and read; then with a 2,049th line. */
+static void check_longest(bool maker, const uint8_t *line, size_t size) {
+    static uint8_t text[ROOM], longest[10244] = {5, 40, 1, 2};
+    size_t whole = repeat(text, line, size, 2048);
+    repeat(longest + 4, BYTES(5, 255, 255, 255, 255), 2048);
+    expect("longest text", "its size", whole, maker ? PAGEORIOLE_TEXT_B : PAGEORIOLE_TEXT_A);
+    expect("longest script field", "its size", sizeof longest, PAGEORIOLE_SCRIPT_FIELD);
+    wrote("longest text", pageoriole_script_text(longest + 3, sizeof longest - 3, maker, place, whole, ANSWER), text, whole);
+    refused("longest text 13", pageoriole_script_text(longest + 3, sizeof longest - 3, maker, place, whole - 1, ANSWER), PAGEORIOLE_ROOM, whole);
+    wrote("longest text, read", pageoriole_text_script(text, whole, 2, maker, place, sizeof longest, ANSWER), longest, sizeof longest);
+    refused("longest text, 13", pageoriole_text_script(text, whole, 2, maker, place, sizeof longest - 1, ANSWER), PAGEORIOLE_ROOM, sizeof longest);
+    memcpy(text + whole, line, size);
+    refused("read 4", pageoriole_text_script(text, whole + size, 2, maker, NO_PLACE, ANSWER), PAGEORIOLE_LENGTH, 2049);
+    refused("read 55 before 4", pageoriole_text_script(text, whole + size - 1, 2, maker, NO_PLACE, ANSWER), PAGEORIOLE_NO_COMMAND, 2049);
+    memcpy(text + whole, "del 65536\nx\n", 12);
+    refused("read 56 before 4", pageoriole_text_script(text, whole + 12, 2, maker, NO_PLACE, ANSWER), PAGEORIOLE_BEYOND, 2049);
+    memcpy(text + whole, "del 1\nx\n", 8);
+    refused("read 4 before the next line's 55", pageoriole_text_script(text, whole + 8, 2, maker, NO_PLACE, ANSWER), PAGEORIOLE_LENGTH, 2049);
+}
+
 /* ---- what the header adds to the functions ---- */
 
 static struct pageoriole_values three_values(void) {
@@ -651,6 +938,17 @@ static void check_struct(void) {
     turned("struct, check 4", pageoriole_check_values(&v, ANSWER), PAGEORIOLE_LENGTH);
     v.has_keep = false;
     passes("struct, no keep list", pageoriole_check_values(&v, ANSWER));
+}
+
+/* A script that was text, taken as that of the values. */
+static void check_struct_text(void) {
+    static uint8_t read_field[64];
+    struct pageoriole_values v = three_values();
+    told("struct, read B", pageoriole_text_script(TEXT("move 3 before 1\n"), 2, FOR_B, read_field, sizeof read_field, ANSWER), PAGEORIOLE_DONE,
+         VALUES(9));
+    pageoriole_take_script(&v, read_field, 9);
+    told("struct, a script that was text", pageoriole_judge_values(&v, ANSWER), PAGEORIOLE_SAFE, NULL, 0);
+    wrote("struct, its text for A", pageoriole_script_text(v.script, v.script_size, FOR_A, PLACE, ANSWER), TEXT("mov 3 1\n"));
 }
 
 /* The same with a default, which every function on a struct passes on. */
@@ -720,14 +1018,22 @@ static void check_names(void) {
     expect("a decision by names", "the place", pageoriole_get(decision + PAGEORIOLE_DECISION_PLACE, PAGEORIOLE_PLACE_WIDTH), 515);
     expect("values", "of 13", pageoriole_values_of(13), 1);
     expect("values", "of 50", pageoriole_values_of(50), 1);
+    expect("values", "of 55", pageoriole_values_of(55), 1);
+    expect("values", "of 56", pageoriole_values_of(56), 1);
     expect("values", "of 30", pageoriole_values_of(30), 2);
     expect("values", "of 32", pageoriole_values_of(32), 0);
     expect("turned away", "by 13", pageoriole_turned_away(13), true);
     expect("turned away", "by 50", pageoriole_turned_away(50), true);
+    expect("turned away", "by 55", pageoriole_turned_away(55), true);
+    expect("turned away", "by 56", pageoriole_turned_away(56), true);
     expect("turned away", "by 0", pageoriole_turned_away(0), false);
     expect("turned away", "by 20", pageoriole_turned_away(20), false);
     expect("sentences", "of 0", pageoriole_says(0)[0], 'd');
     expect("tags", "of a default", PAGEORIOLE_DEFAULT_TAG, 6);
+    expect("makers", "A", PAGEORIOLE_MAKER_A, FOR_A);
+    expect("makers", "B", PAGEORIOLE_MAKER_B, FOR_B);
+    expect("line", "the number of one that isn't a command", PAGEORIOLE_NO_COMMAND, 55);
+    expect("line", "the number of one with too large a number", PAGEORIOLE_BEYOND, 56);
     expect("sentences", "of 25 and 26 differing", pageoriole_says(25) != pageoriole_says(26), false);
 }
 
@@ -753,7 +1059,16 @@ int main(void) {
     check_plan();
     check_judge();
     check_plan_default();
+    check_script_text();
+    check_text_of_refused();
+    check_script_text_file();
+    check_plan_texts();
+    check_text_script();
+    check_lines();
+    check_longest(FOR_A, TEXT("mov 65535 65535\n"));
+    check_longest(FOR_B, TEXT("move 65535 before 65535\n"));
     check_struct();
+    check_struct_text();
     check_struct_default();
     check_names();
     printf("%u checks, %u wrong\n", checks, wrong);

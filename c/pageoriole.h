@@ -4,9 +4,9 @@
  * memcpy and memset. It has no state and no heap: calls from several threads don't meet, as long as each lends places of its own.
  * docs/FORMAT.md says what files, rules, scripts and verdicts are; every number that a caller needs has a name below.
  *
- * What each function promises is stated, and proved, in crates/pageoriole/src/files.rt and lists.rt. The proofs end at this header:
- * c/header_check compares it with the sources, name by name and number by number, and c/check.c calls every function. A caller has to see
- * to this:
+ * What each function promises is stated, and proved, in crates/pageoriole/src/: files.rt, lists.rt, texts.rt. The proofs end at this
+ * header: c/header_check compares it with the sources, name by name and number by number, and c/check.c calls every function. A caller has to
+ * see to this:
  *
  *   - A slice is two arguments, a pointer and a number of elements; that many elements can be read there. A slice of 0 elements may have
  *     any pointer, NULL too.
@@ -17,17 +17,17 @@
  *
  * Answers. Each function returns a number: PAGEORIOLE_DONE, a refusal, a fault or a verdict; pageoriole_says gives its sentence. The values
  * that belong to it are stored in the first words of `answer`, as many as have room; all other words keep what they held. A room of
- * PAGEORIOLE_ANSWER words is always enough. A refusal (1 to 13, and 50) has one value, its position: a byte of the file, 0 where field values
- * were lent, or, of 13, the bytes needed.
+ * PAGEORIOLE_ANSWER words is always enough. A refusal (1 to 13, 50, 55 and 56) has one value, its position: a byte of the file, 0 where field
+ * values were lent, a line's number where text was, or, of 13, the bytes needed.
  *
  * Places. What is written fills the first bytes of `place`; the others keep theirs. When a call is turned away or breaks off, all do.
  *
- * Fields and values. A planner writes a script field: a head of PAGEORIOLE_HEAD bytes, then the value. Judge, replay, check and writer take
- * the value without the head. pageoriole_take_script makes the step between.
+ * Fields and values. A planner writes a script field: a head of PAGEORIOLE_HEAD bytes, then the value; so does pageoriole_text_script. Judge,
+ * replay, check, writer and pageoriole_script_text take the value without the head. pageoriole_take_script makes the step between.
  *
- * Stack. A call touches at most PAGEORIOLE_STACK bytes, and pageoriole_plan_text at most PAGEORIOLE_STACK_TEXT. This is measured and not
- * proved: c/stack.c runs every function on the largest inputs and fails above these. It finds 30,248 bytes (pageoriole_replay_file), and
- * 35,592 for pageoriole_plan_text.
+ * Stack. A call touches at most PAGEORIOLE_STACK bytes, and those that write a text of a plan of type 2 (pageoriole_plan_text,
+ * pageoriole_plan_two_text) at most PAGEORIOLE_STACK_TEXT. This is measured and not proved: c/stack.c runs every function on the largest inputs
+ * and fails above these. It finds 30,248 bytes (pageoriole_replay_file), 35,592 for pageoriole_plan_text and 35,336 for pageoriole_plan_two_text.
  */
 #ifndef PAGEORIOLE_H
 #define PAGEORIOLE_H
@@ -41,12 +41,12 @@ extern "C" {
 #endif
 
 /* The version of this header and of the library that it belongs to. */
-#define PAGEORIOLE_VERSION "2.0.0"
+#define PAGEORIOLE_VERSION "2.1.0"
 
 /* ---- Numbers that are returned ---- */
 
 /* One row a number: its name, the number, how many values belong to it, its sentence.
- * A call is turned away; the value is the position, of 13 the bytes needed. */
+ * A call is turned away; the value is the position, of 13 the bytes needed, of 55 and 56 the line, counted from 1. */
 #define PAGEORIOLE_REFUSALS(ROW)                                                                                                               \
     ROW(PAGEORIOLE_CUT, 1, 1, "the file is cut off inside a field")                                                                            \
     ROW(PAGEORIOLE_TAG, 2, 1, "a field stands where it can't stand")                                                                           \
@@ -61,7 +61,9 @@ extern "C" {
     ROW(PAGEORIOLE_CODING, 11, 1, "a script's type, a code or an unused number is wrong")                                                      \
     ROW(PAGEORIOLE_NO_SCRIPT, 12, 1, "there is no script in the file")                                                                         \
     ROW(PAGEORIOLE_ROOM, 13, 1, "the lent place is too small")                                                                                 \
-    ROW(PAGEORIOLE_DEFAULT, 50, 1, "the default isn't 1, which means permit")
+    ROW(PAGEORIOLE_DEFAULT, 50, 1, "the default isn't 1, which means permit")                                                                  \
+    ROW(PAGEORIOLE_NO_COMMAND, 55, 1, "a line isn't a command of the script's type and the maker")                                             \
+    ROW(PAGEORIOLE_BEYOND, 56, 1, "a number is above 65,535, or, behind `before`, above 65,536")
 
 /* A command fails; the value is its step, counted from 1. */
 #define PAGEORIOLE_FAULTS(ROW)                                                                                                                 \
@@ -154,10 +156,10 @@ enum pageoriole_planned_word {
 
 /* The values of the other functions. */
 enum pageoriole_word {
-    PAGEORIOLE_WRITTEN_BYTES = 0,  /* DONE of what writes a file, a list, decisions or a text: how many bytes */
+    PAGEORIOLE_WRITTEN_BYTES = 0,  /* DONE of what writes a file, a list, decisions, a text or the script of a text: how many bytes */
     PAGEORIOLE_DECIDED_ACTION = 0, /* DONE of what decides one flow: its action */
     PAGEORIOLE_DECIDED_PLACE = 1,  /* and the place of the rule that decides, 0 for the default */
-    PAGEORIOLE_REFUSED_AT = 0,     /* 1 to 13, and 50: the position, or the bytes needed */
+    PAGEORIOLE_REFUSED_AT = 0,     /* 1 to 13, 50, 55 and 56: the position, the bytes needed, or the line */
     PAGEORIOLE_FAULT_STEP = 0,     /* 20 to 23, and 30: the step */
     PAGEORIOLE_FAULT_PLACE = 1     /* 30: the place */
 };
@@ -174,8 +176,11 @@ enum pageoriole_limit {
     PAGEORIOLE_LIST = 2048,      /* bytes: the longest list that a replay writes */
     PAGEORIOLE_TEXT = 65536,     /* bytes: no text of pageoriole_plan_text or pageoriole_judge_text is longer */
     PAGEORIOLE_SHOW_TEXT = 262144, /* bytes: no text of pageoriole_show_text is longer */
-    PAGEORIOLE_STACK = 32768,    /* bytes of stack, for every function but one */
-    PAGEORIOLE_STACK_TEXT = 36864 /* bytes of stack, for pageoriole_plan_text */
+    PAGEORIOLE_TEXT_A = 32768,   /* bytes: no console text of maker A is longer */
+    PAGEORIOLE_TEXT_B = 49152,   /* bytes: no console text of maker B is longer */
+    PAGEORIOLE_SCRIPT_FIELD = 10244, /* bytes: the longest script field, so the longest that pageoriole_text_script writes */
+    PAGEORIOLE_STACK = 32768,    /* bytes of stack, for every function but two */
+    PAGEORIOLE_STACK_TEXT = 36864 /* bytes of stack, for pageoriole_plan_text and pageoriole_plan_two_text */
 };
 
 /* ---- Bytes: docs/FORMAT.md, "The deployment file" ---- */
@@ -204,6 +209,9 @@ enum pageoriole_code {
     PAGEORIOLE_DEL_PLACE = 4, /* del i: place, 0 */
     PAGEORIOLE_MOV = 5        /* mov i j: place, place */
 };
+
+/* Whose console a text is for, handed over for `maker_b`. */
+enum pageoriole_maker { PAGEORIOLE_MAKER_A = 0, PAGEORIOLE_MAKER_B = 1 };
 
 /* Widths in bytes. */
 enum pageoriole_width {
@@ -398,10 +406,39 @@ uint32_t pageoriole_judge_text(const uint8_t *file, size_t file_size, uint8_t *p
 /* What `showlist` prints for the file: its rules, policies, default, keep list and script in words, or the refusal's line. */
 uint32_t pageoriole_show_text(const uint8_t *file, size_t file_size, uint8_t *place, size_t place_size, uint64_t *answer, size_t answer_words);
 
+/* ---- Console text: docs/FORMAT.md, "Console text" ---- */
+
+/* Writes a script, given as a field value, into `place` as text for a maker's console: maker B's if `maker_b`, or else maker A's
+ * (enum pageoriole_maker). One command a line, each line ended by a line feed, no byte behind the last; the empty script is the empty text. DONE:
+ * the bytes written. Refusals: 4, 11, both at 0; 13 last. PAGEORIOLE_TEXT_A or PAGEORIOLE_TEXT_B bytes are always enough. */
+uint32_t pageoriole_script_text(const uint8_t *script, size_t script_size, bool maker_b, uint8_t *place, size_t place_size, uint64_t *answer,
+                                size_t answer_words);
+
+/* The same for the script of the file. Refusals: 1 to 12, 50; 13 last. 12 is at the file's length. */
+uint32_t pageoriole_script_text_file(const uint8_t *file, size_t file_size, bool maker_b, uint8_t *place, size_t place_size, uint64_t *answer,
+                                     size_t answer_words);
+
+/* The same for the plan of type 1, as pageoriole_plan_one_file plans it. A script in the file is checked and not used. Refusals: 1 to 11, 50; 13
+ * last. */
+uint32_t pageoriole_plan_one_text(const uint8_t *file, size_t file_size, bool maker_b, uint8_t *place, size_t place_size, uint64_t *answer,
+                                  size_t answer_words);
+
+/* The same for the plan of type 2, as pageoriole_plan_two_file plans it. */
+uint32_t pageoriole_plan_two_text(const uint8_t *file, size_t file_size, bool maker_b, uint8_t *place, size_t place_size, uint64_t *answer,
+                                  size_t answer_words);
+
+/* Reads a maker's text as a script of type `kind` and writes that into `place` as a script field, head and value; pageoriole_take_script takes the
+ * value out of it. DONE: the bytes written. Refusals: 11 at 0 for a `kind` that isn't 1 or 2; then line by line, each with the line's number
+ * counted from 1: 55, 56, and 4 at a 2,049th command; 13 last. A line behind the one at fault isn't looked at. PAGEORIOLE_SCRIPT_FIELD bytes are
+ * always enough. What pageoriole_script_text wrote comes back as the script that it was. Of maker B, `move i before i` and `move i before i + 1`
+ * are both `mov i i`. */
+uint32_t pageoriole_text_script(const uint8_t *text, size_t text_size, uint8_t kind, bool maker_b, uint8_t *place, size_t place_size,
+                                uint64_t *answer, size_t answer_words);
+
 /* ---- Field values as one struct ---- */
 
-/* Makes the value of a script field, as a planner wrote it into `field`, the script of the values. The bytes stay where they are, and must stay
- * there as long as the values are used. */
+/* Makes the value of a script field, as a planner or pageoriole_text_script wrote it into `field`, the script of the values. The bytes stay where
+ * they are, and must stay there as long as the values are used. */
 static inline void pageoriole_take_script(struct pageoriole_values *values, const uint8_t *field, size_t field_size) {
     bool whole = PAGEORIOLE_HEAD <= field_size;
     values->has_script = true;

@@ -1,7 +1,7 @@
 /* How much stack each function touches: every call runs on a stack of its own, painted before it; the deepest byte that lost its paint is the
  * mark. The inputs are the largest that are accepted: 1,024 rules, policies of 512 rules that have none in common, or the same in reverse, or
- * equal with a keep list of 512, a default, and scripts of 2,048 commands that run through. Prints the mark in bytes for each function, and
- * fails where one is above what the header says. */
+ * equal with a keep list of 512, a default, scripts of 2,048 commands that run through, and their texts for both makers. Prints the mark in
+ * bytes for each function, and fails where one is above what the header says. */
 #include <stdio.h>
 #include <string.h>
 
@@ -24,11 +24,11 @@ static const uint8_t permit[PAGEORIOLE_ACTION_WIDTH] = {PAGEORIOLE_PERMIT};
 
 #define DEFAULT true, permit, sizeof permit
 
-/* One input: policies, keep list and script as field values, and the file of them. */
+/* One input: policies, keep list and script as field values, the file of them, and the script as text. */
 struct input {
-    uint8_t initial[LIST], target[LIST], keep[LIST], script[SCRIPT], file[PAGEORIOLE_FILE];
+    uint8_t initial[LIST], target[LIST], keep[LIST], script[SCRIPT], file[PAGEORIOLE_FILE], text_a[PAGEORIOLE_TEXT_A], text_b[PAGEORIOLE_TEXT_B];
     bool has_keep;
-    size_t keep_size, file_size;
+    size_t keep_size, file_size, text_a_size, text_b_size;
 };
 
 static struct input disjoint, reversed, same;
@@ -60,6 +60,13 @@ static void make_file(struct input *in) {
     pageoriole_write(rules, sizeof rules, in->initial, LIST, in->target, LIST, DEFAULT, in->has_keep, in->keep, in->keep_size, true, in->script,
                      SCRIPT, in->file, sizeof in->file, answer, PAGEORIOLE_ANSWER);
     in->file_size = answer[PAGEORIOLE_WRITTEN_BYTES];
+}
+
+static void make_texts(struct input *in) {
+    pageoriole_script_text(in->script, SCRIPT, PAGEORIOLE_MAKER_A, in->text_a, sizeof in->text_a, answer, PAGEORIOLE_ANSWER);
+    in->text_a_size = answer[PAGEORIOLE_WRITTEN_BYTES];
+    pageoriole_script_text(in->script, SCRIPT, PAGEORIOLE_MAKER_B, in->text_b, sizeof in->text_b, answer, PAGEORIOLE_ANSWER);
+    in->text_b_size = answer[PAGEORIOLE_WRITTEN_BYTES];
 }
 
 /* Deletes the initial rules, appends the target's, and then its last one again and again: ordered, not full. */
@@ -110,6 +117,9 @@ static void make_inputs(void) {
     make_file(&disjoint);
     make_file(&reversed);
     make_file(&same);
+    make_texts(&disjoint);
+    make_texts(&reversed);
+    make_texts(&same);
 }
 
 #define ANSWER answer, (size_t)PAGEORIOLE_ANSWER
@@ -142,6 +152,25 @@ static void plan_text(void) { number = pageoriole_plan_text(FILE_NOW, PLACE, ANS
 static void judge_text(void) { number = pageoriole_judge_text(FILE_NOW, PLACE, ANSWER); }
 static void show_text(void) { number = pageoriole_show_text(FILE_NOW, PLACE, ANSWER); }
 static void judge(void) { number = pageoriole_judge(VALUES, SCRIPT_NOW, ANSWER); }
+
+/* A call for each maker: the mark is that of the deeper one. The second is made only if the first is accepted. */
+#define BOTH_MAKERS(call_a, call_b)                                                                                                            \
+    do {                                                                                                                                       \
+        number = call_a;                                                                                                                       \
+        if (number == PAGEORIOLE_DONE) number = call_b;                                                                                        \
+    } while (false)
+#define TO_A PAGEORIOLE_MAKER_A, PLACE, ANSWER
+#define TO_B PAGEORIOLE_MAKER_B, PLACE, ANSWER
+#define TEXT_A now->text_a, now->text_a_size
+#define TEXT_B now->text_b, now->text_b_size
+
+static void script_text(void) { BOTH_MAKERS(pageoriole_script_text(SCRIPT_NOW, TO_A), pageoriole_script_text(SCRIPT_NOW, TO_B)); }
+static void script_text_file(void) { BOTH_MAKERS(pageoriole_script_text_file(FILE_NOW, TO_A), pageoriole_script_text_file(FILE_NOW, TO_B)); }
+static void plan_one_text(void) { BOTH_MAKERS(pageoriole_plan_one_text(FILE_NOW, TO_A), pageoriole_plan_one_text(FILE_NOW, TO_B)); }
+static void plan_two_text(void) { BOTH_MAKERS(pageoriole_plan_two_text(FILE_NOW, TO_A), pageoriole_plan_two_text(FILE_NOW, TO_B)); }
+static void text_script(void) {
+    BOTH_MAKERS(pageoriole_text_script(TEXT_A, now->script[0], TO_A), pageoriole_text_script(TEXT_B, now->script[0], TO_B));
+}
 
 /* Calls a function with the stack pointer at the end of the painted stack. */
 static void call_there(void (*call)(void)) {
@@ -183,7 +212,12 @@ int main(void) {
                  {"pageoriole_judge", judge, PAGEORIOLE_STACK},
                  {"pageoriole_plan_text", plan_text, PAGEORIOLE_STACK_TEXT},
                  {"pageoriole_judge_text", judge_text, PAGEORIOLE_STACK},
-                 {"pageoriole_show_text", show_text, PAGEORIOLE_STACK}};
+                 {"pageoriole_show_text", show_text, PAGEORIOLE_STACK},
+                 {"pageoriole_script_text", script_text, PAGEORIOLE_STACK},
+                 {"pageoriole_script_text_file", script_text_file, PAGEORIOLE_STACK},
+                 {"pageoriole_plan_one_text", plan_one_text, PAGEORIOLE_STACK},
+                 {"pageoriole_plan_two_text", plan_two_text, PAGEORIOLE_STACK_TEXT},
+                 {"pageoriole_text_script", text_script, PAGEORIOLE_STACK}};
     const struct input *inputs[] = {&disjoint, &reversed, &same};
     bool accepted = true, within = true;
     make_rules();

@@ -1,5 +1,6 @@
 /* A tour of the library, by the header's names alone: makes three rules and two policies, decides flows, also by the default, plans by both
- * languages, judges both plans and a script that is wrong, and prints a sentence for each answer. */
+ * languages, judges both plans and a script that is wrong, reads one maker's console text and writes it for the other, and prints a sentence for
+ * each answer. */
 #include <stdio.h>
 
 #include "pageoriole.h"
@@ -111,6 +112,23 @@ static void judge_wrong_script(struct pageoriole_values *values) {
     say("a script that appends a rule that is there", pageoriole_judge_values(values, answer, PAGEORIOLE_ANSWER));
 }
 
+/* A line of maker B, read as a script and written for maker A; then the same line, read as if it were maker A's. */
+static void translate(struct pageoriole_values *values) {
+    static const char line[] = "move 1 before 3\n";
+    static uint8_t field[PAGEORIOLE_SCRIPT_FIELD], text[PAGEORIOLE_TEXT_A];
+    const uint8_t *bytes = (const uint8_t *)line;
+    size_t size = sizeof line - 1;
+    uint8_t type = PAGEORIOLE_INSERT_DELETE_MOVE;
+    uint32_t number = pageoriole_text_script(bytes, size, type, PAGEORIOLE_MAKER_B, field, sizeof field, answer, PAGEORIOLE_ANSWER);
+    say("text of maker B, read", number);
+    if (number != PAGEORIOLE_DONE) return;
+    pageoriole_take_script(values, field, answer[PAGEORIOLE_WRITTEN_BYTES]);
+    say("written for maker A",
+        pageoriole_script_text(values->script, values->script_size, PAGEORIOLE_MAKER_A, text, sizeof text, answer, PAGEORIOLE_ANSWER));
+    printf("  B: %s  A: %.*s", line, (int)answer[PAGEORIOLE_WRITTEN_BYTES], (const char *)text);
+    say("read as maker A's", pageoriole_text_script(bytes, size, type, PAGEORIOLE_MAKER_A, field, sizeof field, answer, PAGEORIOLE_ANSWER));
+}
+
 int main(void) {
     struct pageoriole_values values = make_values();
     printf("pageoriole %s\n", PAGEORIOLE_VERSION);
@@ -122,6 +140,7 @@ int main(void) {
     plan_and_judge("plan by append and delete", pageoriole_plan_one_values, &values);
     plan_and_judge("plan by insert, delete and move", pageoriole_plan_two_values, &values);
     judge_wrong_script(&values);
+    translate(&values);
     say("no room for a plan", pageoriole_plan_two_values(&values, plan, 0, answer, PAGEORIOLE_ANSWER));
     return 0;
 }

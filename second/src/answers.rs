@@ -1,5 +1,5 @@
-//! One input with all answers to it: the texts of a file, and every entry,
-//! over files and over field values. `compare` holds two of these against each other.
+//! One input with all answers to it: what the programs print, and every entry,
+//! over files, over field values and over texts. `compare` holds two of these against each other.
 
 mod answer;
 mod input;
@@ -12,8 +12,8 @@ use crate::inputs;
 use crate::rule::Flow;
 use input::Rooms;
 
-pub use answer::{Answer, Answers, Difference, LENT_BYTE};
-pub use input::Input;
+pub use answer::{Answer, Answers, Difference, Printed, LENT_BYTE};
+pub use input::{Input, Program};
 pub use second::ours;
 
 #[cfg(feature = "library")]
@@ -32,7 +32,9 @@ impl Input {
         });
         let flows: Vec<Flow> = flows.collect();
         let flow_bytes = inputs::flow_bytes(&flows, seed, index);
-        let mut input = Input { file: inputs::make(seed, index), made, rooms: Rooms::default(), flows, flow_bytes };
+        let texts = inputs::texts(seed, index, made.script.as_deref().unwrap_or_default());
+        let (file, rooms) = (inputs::make(seed, index), Rooms::default());
+        let mut input = Input { file, made, rooms, flows, flow_bytes, texts };
         input.rooms = second::rooms(&input, &mut inputs::rooms(seed, index));
         input
     }

@@ -4,7 +4,8 @@
 mod made;
 
 use crate::commands::commands_of;
-use crate::file;
+use crate::console::{self, Maker};
+use crate::file::{self, put};
 use crate::format::numbers;
 use crate::judge::judge_values;
 use crate::library;
@@ -23,6 +24,10 @@ const REPETITION: Duration = Duration::from_millis(4);
 
 const FLOWS: usize = 1_000_000;
 const PLAN_BYTES: usize = 5_124;
+
+/// The longest console text and the longest script field.
+const CONSOLE_BYTES: usize = 49_152;
+const FIELD_BYTES: usize = 10_244;
 
 /// What the ratio of a line should stay under.
 const GOAL: f64 = 1.5;
@@ -149,6 +154,35 @@ impl Bench<'_> {
         );
     }
 
+    fn writing_text(&self, script: &[u8], maker: Maker) {
+        let (mut place, mut other_place, mut words) = (vec![0; CONSOLE_BYTES], vec![0; CONSOLE_BYTES], [0; 1]);
+        let second = |place: &mut [u8]| put(&console::script_text(black_box(script), maker)?, place);
+        same(library::script_text(script, maker, &mut place, &mut words), 0);
+        same(second(&mut other_place), Ok(words[0] as usize));
+        assert!(place == other_place, "the two answer differently");
+        self.line(
+            format!("write {} commands as text for maker {}", commands_of(script).len(), maker.name()),
+            REPETITIONS,
+            || library::script_text(black_box(script), maker, &mut place, &mut words),
+            || second(&mut other_place),
+        );
+    }
+
+    fn reading_text(&self, script: &[u8], maker: Maker) {
+        let (kind, text) = (script[0], console::script_text(script, maker).expect("an accepted script"));
+        let (mut place, mut other_place, mut words) = ([0; FIELD_BYTES], [0; FIELD_BYTES], [0; 1]);
+        let second = |place: &mut [u8]| put(&console::text_script(black_box(&text), kind, maker)?, place);
+        same(library::text_script(&text, kind, maker, &mut place, &mut words), 0);
+        same(second(&mut other_place), Ok(words[0] as usize));
+        assert!(place == other_place, "the two answer differently");
+        self.line(
+            format!("read text of {} commands of maker {}", commands_of(script).len(), maker.name()),
+            REPETITIONS,
+            || library::text_script(black_box(&text), kind, maker, &mut place, &mut words),
+            || second(&mut other_place),
+        );
+    }
+
     /// Prints all lines.
     pub fn run(&self) {
         println!("{:<60} {:>11} {:>11} {:>6}", "best time of one call", "library/µs", "second/µs", "ratio");
@@ -174,7 +208,15 @@ impl Bench<'_> {
         for rules in [512, 128, 32] {
             self.judging("the type 1 plan of disjoint", &Made::disjoint_plan(rules));
         }
+        let wandering = Made::wandering(512).script.expect("a script to write");
+        for maker in Maker::BOTH {
+            self.writing_text(&wandering, maker);
+        }
+        for maker in Maker::BOTH {
+            self.reading_text(&wandering, maker);
+        }
         println!("read: a file with equal policies of half the rules, a keep list of all of them, and a script of two commands a rule;");
-        println!("decide: one call over field values, with their tests; plan and judge: likewise, over a catalogue of twice the rules.");
+        println!("decide: one call over field values, with their tests; plan and judge: likewise, over a catalogue of twice the rules;");
+        println!("text: of the script that wanders over 512 rules, half of it moves.");
     }
 }

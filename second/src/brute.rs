@@ -1,8 +1,10 @@
 //! Brute force over small lists: all pairs of policies for the planners, all
-//! short scripts for the judge, each with every pattern of match and action.
+//! short scripts for the judge, each with every pattern of match and action; all
+//! moves of maker B, and all short texts.
 
 mod held;
 mod literal;
+mod moves;
 mod plans;
 mod scripts;
 
@@ -18,7 +20,9 @@ fn report(name: &str, outcome: Result<String, String>) -> bool {
     outcome.is_ok()
 }
 
-/// Runs everything, with policies over so many rules for the planners.
+/// Runs everything, with policies over so many rules for the planners and for the moves.
 pub fn run(rules: u16) -> bool {
-    report("plans", plans::test_all(rules)) & report("scripts", scripts::test_all(SCRIPT_RULES, SCRIPT_COMMANDS))
+    report("plans", plans::test_all(rules))
+        & report("scripts", scripts::test_all(SCRIPT_RULES, SCRIPT_COMMANDS))
+        & report("console text", moves::test_all(rules))
 }

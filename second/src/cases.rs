@@ -1,16 +1,20 @@
-//! Cases for the programs `reader_cases`, `writer_cases` and `entry_cases`: rows of
-//! cases in `data`, their names in `args`, and in `stdout` what the program must print.
+//! Cases for the programs `reader_cases`, `writer_cases`, `entry_cases` and `console_cases`:
+//! in `data` files of cases, their names in `args`, and in `stdout` what the program must print.
 //!
-//! A case of the reader is a file; `writer` says what one of the writer is. One of
-//! the entries is numbers of two bytes: whether it is about a file (0) or field
+//! The first three read rows of cases. A case of the reader is a file; `writer` says what one of the
+//! writer is. One of the entries is numbers of two bytes: whether it is about a file (0) or field
 //! values (1), whether there is a default, whether there is a keep list, whether
 //! there is a script, the room lent for output, and the flow, whose addresses have
 //! two numbers each; then its parts, themselves a row: the file; or the rules, both
 //! policies, the default, the keep list and the script; and last flows, as the
-//! entries take many at once.
+//! entries take many at once. A file for `console_cases` is a case by itself, and the end of its name
+//! says what it is: `.bin` a deployment file, `.value` a script's value, `.A1.text` a text that is
+//! read for maker A as type 1, and so on.
 
 mod base;
+mod calls;
 mod case;
+mod console;
 mod expected;
 mod faults;
 mod given;
@@ -21,12 +25,12 @@ mod row;
 mod scripts;
 mod writer;
 
-use row::{rows, Group};
+use row::{row_files, CaseFile, Group};
 use std::fs;
 use std::io;
 use std::path::Path;
 
-/// The groups of cases of a program.
+/// The groups of cases of a program that reads rows.
 fn groups_of(program: &str) -> Option<Vec<Group>> {
     match program {
         "reader_cases" => Some(reader::all()),
@@ -36,28 +40,44 @@ fn groups_of(program: &str) -> Option<Vec<Group>> {
     }
 }
 
+/// The cases of `console_cases`: those listed in a folder, or else those that were listed before; and the made ones.
+fn console_files(data: &Path, listed: Option<&Path>) -> io::Result<Vec<CaseFile>> {
+    let mut files = match listed {
+        Some(folder) => console::listed(folder)?,
+        None if data.exists() => console::listed_before(data)?,
+        None => Vec::new(),
+    };
+    files.extend(console::made());
+    Ok(files)
+}
+
+/// How many cases a program has, and their files; None for a program that has none.
+fn files_of(program: &str, data: &Path, listed: Option<&Path>) -> io::Result<Option<(usize, Vec<CaseFile>)>> {
+    if program == "console_cases" {
+        let files = console_files(data, listed)?;
+        return Ok(Some((files.len(), files)));
+    }
+    let count = |groups: &[Group]| groups.iter().map(|(_, cases)| cases.len()).sum();
+    Ok(groups_of(program).map(|groups| (count(&groups), row_files(&groups))))
+}
+
 /// Writes the cases of the program whose folder this is, and the text expected of them, in place of those that are there.
-pub fn run(folder: &Path) -> io::Result<bool> {
+pub fn run(folder: &Path, listed: Option<&Path>) -> io::Result<bool> {
     let program = folder.file_name().and_then(|name| name.to_str()).unwrap_or_default();
-    let Some(groups) = groups_of(program) else {
+    let data = folder.join("data");
+    let Some((count, files)) = files_of(program, &data, listed)? else {
         eprintln!("there are no cases of a program {program:?}");
         return Ok(false);
     };
-    let data = folder.join("data");
     if data.exists() {
         fs::remove_dir_all(&data)?;
     }
     fs::create_dir_all(&data)?;
-    let (mut args, mut stdout, mut count) = (String::new(), String::new(), 0);
-    for (group, cases) in groups {
-        count += cases.len();
-        for (number, row) in rows(&cases).into_iter().enumerate() {
-            let name = format!("{group}{number:02}\n");
-            fs::write(data.join(name.trim_end()), row.bytes)?;
-            args.push_str(&name);
-            stdout.push_str(&name);
-            stdout.push_str(&row.text);
-        }
+    let (mut args, mut stdout) = (String::new(), Vec::new());
+    for CaseFile { name, bytes, text } in files {
+        fs::write(data.join(&name), bytes)?;
+        args.push_str(&format!("{name}\n"));
+        stdout.extend([name.as_bytes(), b"\n", &text].concat());
     }
     fs::write(folder.join("args"), args)?;
     fs::write(folder.join("stdout"), stdout)?;
@@ -68,6 +88,7 @@ pub fn run(folder: &Path) -> io::Result<bool> {
 #[cfg(test)]
 mod tests {
     use super::*;
+    use std::collections::HashSet;
 
     /// How often a line of all texts starts with these words.
     fn lines_with(text: &str, words: &str) -> usize {
@@ -130,5 +151,40 @@ mod tests {
         wanted.extend(["replay ended", "plan 1 kept", "plan 2 kept"].map(String::from));
         wanted.extend(["flows by initial bytes", "flows by target bytes"].map(String::from));
         expect_lines(&text, &wanted);
+    }
+    #[test]
+    fn every_outcome_of_console_text_occurs_under_its_own_name() {
+        let files = console::made();
+        let names: HashSet<&str> = files.iter().map(|file| file.name.as_str()).collect();
+        assert_eq!(names.len(), files.len());
+        assert!(names.iter().all(|name| !name.starts_with(|letter: char| letter.is_ascii_digit())));
+        let bytes: Vec<u8> = files.iter().flat_map(|file| file.text.clone()).collect();
+        let text = String::from_utf8_lossy(&bytes);
+        let of_file = [1, 2, 3, 4, 5, 6, 7, 8, 9, 10, 11, 13, 50];
+        let mut wanted = Vec::new();
+        for maker in ["A", "B"] {
+            for entry in ["own", "plan 1", "plan 2"] {
+                wanted.extend(of_file.map(|number| format!("{entry} {maker} refused {number} at")));
+            }
+            wanted.push(format!("own {maker} refused 12 at"));
+            wanted.extend([4, 11].map(|number| format!("script {maker} refused {number} at 0 kept")));
+            wanted.push(format!("script {maker} refused 13 at"));
+            wanted.extend(["own", "plan 1", "plan 2", "script"].map(|entry| format!("{entry} {maker} wrote 0 kept")));
+        }
+        let longest = [("A", 32768), ("B", 49152)];
+        for entry in ["own", "script"] {
+            wanted.extend(longest.map(|(maker, size)| format!("{entry} {maker} wrote {size} kept")));
+        }
+        wanted.extend([11, 13, 55, 56].map(|number| format!("text refused {number} at")));
+        wanted.extend([4, 55, 56].map(|number| format!("text refused {number} at 2049 kept")));
+        wanted.extend([55, 56].map(|number| format!("text refused {number} at 2 kept")));
+        wanted.extend([4, 10244].map(|size| format!("text wrote {size} kept")));
+        expect_lines(&text, &wanted);
+    }
+
+    #[test]
+    fn no_file_is_longer_than_the_program_reads() {
+        let most = console::made().iter().map(|file| file.bytes.len()).max();
+        assert!(most.is_some_and(|most| most <= 65536), "{most:?}");
     }
 }

@@ -1,47 +1,52 @@
 //! Compares our answers with another implementation's on made inputs, and
 //! counts the outcomes by kind.
 
-use crate::answers::{ours, Answer, Answers, Difference, Input};
+use crate::answers::{ours, Answer, Answers, Difference, Input, Printed, Program};
 use std::collections::BTreeMap;
 use std::io::{self, Write};
 use std::process::{Command, Stdio};
 
 // ---- The other side ----
 
-/// Programs that read a file from standard input and print its texts.
-pub struct Programs {
-    planlist: Vec<String>,
-    judgelist: Vec<String>,
-    showlist: Vec<String>,
-}
+/// Programs that read standard input and print their answer.
+pub struct Programs([Vec<String>; 5]);
 
 impl Programs {
-    /// Commands are split at blanks; no shell is used.
-    pub fn new(planlist: &str, judgelist: &str, showlist: &str) -> Programs {
-        let split = |command: &str| command.split_whitespace().map(str::to_string).collect();
-        Programs { planlist: split(planlist), judgelist: split(judgelist), showlist: split(showlist) }
+    /// The commands that start `planlist`, `judgelist`, `showlist`, `scripttext` and
+    /// `textscript`. They are split at blanks; no shell is used.
+    pub fn new(commands: [&str; 5]) -> Programs {
+        Programs(commands.map(|command| command.split_whitespace().map(str::to_string).collect()))
+    }
+
+    /// The command that starts a program with its arguments.
+    fn command(&self, program: Program) -> Vec<String> {
+        let Programs([planlist, judgelist, showlist, scripttext, textscript]) = self;
+        let with = |command: &[String], maker: &str, last: String| [command, &[maker.to_string(), last]].concat();
+        match program {
+            Program::Planlist => planlist.clone(),
+            Program::Judgelist => judgelist.clone(),
+            Program::Showlist => showlist.clone(),
+            Program::Scripttext(maker, what) => with(scripttext, maker.name(), what.name().to_string()),
+            Program::Textscript(maker, kind) => with(textscript, maker.name(), kind.to_string()),
+        }
     }
 
     fn answers(&self, input: &Input) -> io::Result<Answers> {
-        Ok(Answers {
-            plan_text: output(&self.planlist, &input.file)?,
-            judge_text: output(&self.judgelist, &input.file)?,
-            show_text: output(&self.showlist, &input.file)?,
-            entries: None,
-        })
+        let print = |(program, input)| Ok((program, output(&self.command(program), input)?));
+        Ok(Answers { printed: input.questions().into_iter().map(print).collect::<io::Result<_>>()?, entries: None })
     }
 }
 
-/// What a program prints for the file. One that stops reading early is no fault.
-fn output(command: &[String], file: &[u8]) -> io::Result<String> {
+/// What a program prints for its input. One that stops reading early is no fault.
+fn output(command: &[String], input: &[u8]) -> io::Result<Vec<u8>> {
     let (name, arguments) = command.split_first().ok_or(io::ErrorKind::InvalidInput)?;
     let mut child = Command::new(name).args(arguments).stdin(Stdio::piped()).stdout(Stdio::piped()).spawn()?;
     let mut stdin = child.stdin.take().expect("a piped input");
     let printed = std::thread::scope(|scope| {
-        scope.spawn(move || stdin.write_all(file));
+        scope.spawn(move || stdin.write_all(input));
         child.wait_with_output()
     })?;
-    Ok(String::from_utf8_lossy(&printed.stdout).into_owned())
+    Ok(printed.stdout)
 }
 
 /// The other implementation: none, the programs, or the linked library.
@@ -66,14 +71,22 @@ impl Other {
 
 // ---- Counts by outcome ----
 
-/// The kind of a text: "refused N", "verdict N", "planned" or "shown".
-fn text_kind(text: &str) -> String {
+/// A program, and the kind of what it prints: "refused N", "verdict N", or that the work is done.
+fn printed_kind((program, bytes): &Printed) -> (&'static str, String) {
+    let text = String::from_utf8_lossy(bytes);
     let mut words = text.split_whitespace();
-    match (words.next(), words.next()) {
-        (Some(word @ ("refused" | "verdict")), Some(number)) => format!("{word} {number:>2}"),
-        (Some("rules"), _) => "shown".to_string(),
-        _ => "planned".to_string(),
-    }
+    let number = match (words.next(), words.next()) {
+        (Some(word @ ("refused" | "verdict")), Some(number)) => Some(format!("{word} {number:>2}")),
+        _ => None,
+    };
+    let (name, done) = match program {
+        Program::Planlist => ("planlist", "planned"),
+        Program::Judgelist => ("judgelist", "judged"),
+        Program::Showlist => ("showlist", "shown"),
+        Program::Scripttext(..) => ("scripttext", "written"),
+        Program::Textscript(..) => ("textscript", "read"),
+    };
+    (name, number.unwrap_or_else(|| done.to_string()))
 }
 
 /// The kind of an entry's answer: a refusal, a verdict or a broken replay by
@@ -87,7 +100,7 @@ fn answer_kind(answer: &Answer) -> String {
         (0, [1, ..]) if one_flow => "permit by a rule".to_string(),
         (0, _) if one_flow => "deny by a rule".to_string(),
         (0, _) => "done".to_string(),
-        (number @ (1..=13 | 50), _) => format!("refused {number:>2}"),
+        (number @ (1..=13 | 50..=56), _) => format!("refused {number:>2}"),
         (number, _) if judge => format!("verdict {number:>2}"),
         (number, _) => format!("breaks off {number:>2}"),
     }
@@ -102,9 +115,10 @@ impl Counts {
     }
 
     fn add(&mut self, answers: &Answers) {
-        self.count("planlist", text_kind(&answers.plan_text));
-        self.count("judgelist", text_kind(&answers.judge_text));
-        self.count("showlist", text_kind(&answers.show_text));
+        for printed in &answers.printed {
+            let (program, kind) = printed_kind(printed);
+            self.count(program, kind);
+        }
         for answer in answers.entries.iter().flatten() {
             self.count(answer.entry, answer_kind(answer));
         }
@@ -131,6 +145,9 @@ fn print_difference(index: u64, input: &Input, difference: &Difference) {
     println!("default {default:?}\nkeep {keep:?}\nscript {script:?}");
     println!("room {} for a script, {} for a file, {:?}", made.plan_room, made.file_room, input.rooms);
     println!("flows {:?}\nas bytes {}", input.flows, hex(&input.flow_bytes));
+    for made in &input.texts {
+        println!("text for {:?} type {}: {}", made.maker, made.kind, made.text.escape_ascii());
+    }
     println!("second {}\nother {}", difference.0, difference.1);
 }
 

@@ -223,6 +223,12 @@ pub fn check_default(default: Option<&[u8]>) -> Result<(), Refusal> {
     at_zero(test_default(value))
 }
 
+/// Tests a script: 4, 11.
+pub fn check_script(value: &[u8]) -> Result<(), Refusal> {
+    at_zero(test_length(TAG_SCRIPT, value.len()))?;
+    at_zero(test_script(value))
+}
+
 /// Tests all values in the document's order, every refusal at position 0.
 pub fn check<'a>(values: &Values<'a>) -> Result<Contents<'a>, Refusal> {
     let rules = check_rules(values.rules)?;
@@ -234,8 +240,7 @@ pub fn check<'a>(values: &Values<'a>) -> Result<Contents<'a>, Refusal> {
         at_zero(test_keep(keep, values.initial, values.target))?;
     }
     if let Some(script) = values.script {
-        at_zero(test_length(TAG_SCRIPT, script.len()))?;
-        at_zero(test_script(script))?;
+        check_script(script)?;
     }
     let Values { initial, target, default, keep, script, .. } = *values;
     Ok(Contents { rules, initial, target, default, keep, script })

@@ -1,5 +1,5 @@
-//! A deterministic maker of inputs: valid, damaged and adversarial files, and
-//! flows. The same seed and index always give the same bytes.
+//! A deterministic maker of inputs: valid, damaged and adversarial files and texts,
+//! and flows. The same seed and index always give the same bytes.
 
 mod damage;
 mod draft;
@@ -7,19 +7,27 @@ mod limits;
 mod random;
 mod rules;
 mod scripts;
+mod texts;
 mod values;
 
+use crate::commands::commands_of;
+use crate::file::check_script;
 use crate::rule::{flow_of, Flow};
 use damage::Field;
 use draft::Draft;
 use random::Random;
 
+pub use texts::MadeText;
 pub use values::MadeValues;
 
 const FLOWS: u64 = 0x666c_6f77;
 const VALUES: u64 = 0x7661_6c75;
 const ROOMS: u64 = 0x726f_6f6d;
 const CUTS: u64 = 0x6375_7473;
+const TEXTS: u64 = 0x7465_7874;
+
+/// How many texts an input has.
+pub const TEXTS_OF_INPUT: usize = 4;
 
 /// The input with this index.
 pub fn make(seed: u64, index: u64) -> Vec<u8> {
@@ -87,6 +95,16 @@ pub fn values(seed: u64, index: u64) -> MadeValues {
     values::gather(random, &fields)
 }
 
+/// The texts with this index; the first is that of the given script, if it is one.
+pub fn texts(seed: u64, index: u64, script: &[u8]) -> [MadeText; TEXTS_OF_INPUT] {
+    let random = &mut Random::new(seed ^ TEXTS, index);
+    let mut made = [(); TEXTS_OF_INPUT].map(|()| texts::any(random));
+    if check_script(script).is_ok() {
+        made[0] = texts::written(random, script[0], &commands_of(script));
+    }
+    made
+}
+
 /// A maker of rooms for what is written.
 pub struct RoomMaker(Random);
 
@@ -146,6 +164,7 @@ pub fn flow_near(rules: &[&[u8]], seed: u64, index: u64) -> Flow {
 #[cfg(test)]
 mod tests {
     use super::*;
+    use crate::console::text_script;
     use crate::text::{judge_text, plan_text};
     use std::collections::HashMap;
 
@@ -171,6 +190,25 @@ mod tests {
             let count = counts.get(&outcome).copied().unwrap_or(0);
             assert!(count >= 20, "{outcome} occurs {count} times");
         }
+    }
+
+    #[test]
+    fn every_outcome_of_a_text_occurs_often() {
+        let mut counts: HashMap<u8, usize> = HashMap::new();
+        let (mut longest, mut after_the_most) = (0, 0);
+        for made in (0..4000).flat_map(|index| texts(1, index, &[])) {
+            let answer = text_script(&made.text, made.kind, made.maker);
+            let outcome = answer.as_ref().map_or_else(|refusal| refusal.number, |_| 0);
+            longest += usize::from(answer.as_ref().is_ok_and(|field| field.len() == 10_244));
+            after_the_most +=
+                usize::from(matches!(answer, Err(refusal) if refusal.position == 2049 && refusal.number > 50));
+            *counts.entry(outcome).or_default() += 1;
+        }
+        for outcome in [0, 4, 11, 55, 56] {
+            let count = counts.get(&outcome).copied().unwrap_or(0);
+            assert!(count >= 50, "{outcome} occurs {count} times");
+        }
+        assert!(longest >= 20 && after_the_most >= 20, "{longest} and {after_the_most}");
     }
 
     #[test]

@@ -8,6 +8,7 @@ pub mod brute;
 pub mod cases;
 pub mod commands;
 pub mod compare;
+pub mod console;
 pub mod file;
 pub mod format;
 pub mod inputs;

@@ -1,6 +1,7 @@
 //! The verified library as `c/pageoriole.h` declares it, each function with its
 //! slices put together. The number is returned, its values stand in `answer`.
 
+use crate::console::{Maker, What};
 use crate::file::Values;
 use crate::policy::PolicyValues;
 use crate::rule::Flow;
@@ -10,6 +11,7 @@ type Place = *mut u8;
 type Words = *mut u64;
 type Reads = unsafe extern "C" fn(Bytes, usize, Words, usize) -> u32;
 type Writes = unsafe extern "C" fn(Bytes, usize, Place, usize, Words, usize) -> u32;
+type WritesFor = unsafe extern "C" fn(Bytes, usize, bool, Place, usize, Words, usize) -> u32;
 
 #[rustfmt::skip]
 type Plans = unsafe extern "C" fn(
@@ -77,6 +79,22 @@ extern "C" {
         rules: Bytes, rules_size: usize, initial: Bytes, initial_size: usize, target: Bytes, target_size: usize,
         has_default: bool, default_value: Bytes, default_size: usize, has_keep: bool, keep: Bytes, keep_size: usize,
         script: Bytes, script_size: usize, answer: Words, words: usize,
+    ) -> u32;
+    fn pageoriole_script_text(
+        script: Bytes, script_size: usize, maker_b: bool, place: Place, room: usize, answer: Words, words: usize,
+    ) -> u32;
+    fn pageoriole_script_text_file(
+        file: Bytes, size: usize, maker_b: bool, place: Place, room: usize, answer: Words, words: usize,
+    ) -> u32;
+    fn pageoriole_plan_one_text(
+        file: Bytes, size: usize, maker_b: bool, place: Place, room: usize, answer: Words, words: usize,
+    ) -> u32;
+    fn pageoriole_plan_two_text(
+        file: Bytes, size: usize, maker_b: bool, place: Place, room: usize, answer: Words, words: usize,
+    ) -> u32;
+    fn pageoriole_text_script(
+        text: Bytes, text_size: usize, kind: u8, maker_b: bool, place: Place, room: usize, answer: Words,
+        words: usize,
     ) -> u32;
 }
 
@@ -237,6 +255,44 @@ pub fn judge(values: &Values, script: &[u8], answer: &mut [u64]) -> u32 {
             rules.as_ptr(), rules.len(), initial.as_ptr(), initial.len(), target.as_ptr(), target.len(),
             values.default.is_some(), default.as_ptr(), default.len(), values.keep.is_some(), keep.as_ptr(),
             keep.len(), script.as_ptr(), script.len(), answer.as_mut_ptr(), answer.len(),
+        )
+    }
+}
+
+// ---- Console text ----
+
+#[rustfmt::skip]
+fn writing_for(entry: WritesFor, input: &[u8], maker: Maker, place: &mut [u8], answer: &mut [u64]) -> u32 {
+    unsafe {
+        entry(
+            input.as_ptr(), input.len(), maker == Maker::B, place.as_mut_ptr(), place.len(), answer.as_mut_ptr(),
+            answer.len(),
+        )
+    }
+}
+
+/// The text of a script's value.
+pub fn script_text(script: &[u8], maker: Maker, place: &mut [u8], answer: &mut [u64]) -> u32 {
+    writing_for(pageoriole_script_text, script, maker, place, answer)
+}
+
+/// The text of a file's script, or of a plan for it.
+pub fn file_text(file: &[u8], what: What, maker: Maker, place: &mut [u8], answer: &mut [u64]) -> u32 {
+    let entry: WritesFor = match what {
+        What::Own => pageoriole_script_text_file,
+        What::PlanOne => pageoriole_plan_one_text,
+        What::PlanTwo => pageoriole_plan_two_text,
+    };
+    writing_for(entry, file, maker, place, answer)
+}
+
+/// The script field of a text of this type, which may be none, and maker.
+#[rustfmt::skip]
+pub fn text_script(text: &[u8], kind: u8, maker: Maker, place: &mut [u8], answer: &mut [u64]) -> u32 {
+    unsafe {
+        pageoriole_text_script(
+            text.as_ptr(), text.len(), kind, maker == Maker::B, place.as_mut_ptr(), place.len(), answer.as_mut_ptr(),
+            answer.len(),
         )
     }
 }

@@ -1,6 +1,7 @@
-//! The command line: `second planlist`, `judgelist`, `showlist`, `vectors`,
-//! `brute`, `inputs`, `compare`, `cases` and `bench`; see README.md.
+//! The command line: `second planlist`, `judgelist`, `showlist`, `scripttext`,
+//! `textscript`, `vectors`, `brute`, `inputs`, `compare`, `cases` and `bench`; see README.md.
 
+use second::console::{self, Maker, What};
 use second::{brute, cases, compare, inputs, show, text, vectors};
 use std::error::Error;
 use std::io::{self, Read, Write};
@@ -13,11 +14,14 @@ const USAGE: &str = "\
 usage: second planlist < FILE
        second judgelist < FILE
        second showlist < FILE
+       second scripttext MAKER WHAT < FILE
+       second textscript MAKER TYPE < TEXT
        second vectors FOLDER
        second brute [--rules N]
        second inputs --seed N --count K --dir FOLDER
-       second compare --seed N --count K [--library | --planlist COMMAND --judgelist COMMAND --showlist COMMAND]
-       second cases FOLDER
+       second compare --seed N --count K [--library | --planlist COMMAND --judgelist COMMAND --showlist COMMAND
+                      --scripttext COMMAND --textscript COMMAND]
+       second cases FOLDER [LISTED]
        second bench [--only TEXT]
 ";
 
@@ -33,39 +37,49 @@ impl std::fmt::Display for Misused {
 
 impl Error for Misused {}
 
-/// What a command takes: words without a name, options that have a value, options that have none.
-struct Takes(usize, &'static [&'static str], &'static [&'static str]);
+/// What a command takes: words without a name, and how many of them it can do without;
+/// options that have a value, options that have none.
+struct Takes(&'static [&'static str], usize, &'static [&'static str], &'static [&'static str]);
+
+/// The programs that a comparison can drive, each an option with the command that starts it.
+const PROGRAMS: [&str; 5] = ["--planlist", "--judgelist", "--showlist", "--scripttext", "--textscript"];
+
+const COMPARED: [&str; 7] = ["--seed", "--count", PROGRAMS[0], PROGRAMS[1], PROGRAMS[2], PROGRAMS[3], PROGRAMS[4]];
 
 fn taken(name: &str) -> Option<Takes> {
     Some(match name {
-        "planlist" | "judgelist" | "showlist" => Takes(0, &[], &[]),
-        "vectors" | "cases" => Takes(1, &[], &[]),
-        "brute" => Takes(0, &["--rules"], &[]),
-        "inputs" => Takes(0, &["--seed", "--count", "--dir"], &[]),
-        "compare" => Takes(0, &["--seed", "--count", "--planlist", "--judgelist", "--showlist"], &["--library"]),
-        "bench" => Takes(0, &["--only"], &[]),
+        "planlist" | "judgelist" | "showlist" => Takes(&[], 0, &[], &[]),
+        "scripttext" => Takes(&["a maker", "what is written"], 0, &[], &[]),
+        "textscript" => Takes(&["a maker", "a type"], 0, &[], &[]),
+        "vectors" => Takes(&["a folder"], 0, &[], &[]),
+        "cases" => Takes(&["a folder", "a folder of listed cases"], 1, &[], &[]),
+        "brute" => Takes(&[], 0, &["--rules"], &[]),
+        "inputs" => Takes(&[], 0, &["--seed", "--count", "--dir"], &[]),
+        "compare" => Takes(&[], 0, &COMPARED, &["--library"]),
+        "bench" => Takes(&[], 0, &["--only"], &[]),
         _ => return None,
     })
 }
 
 /// Whether a command takes these words: no other, and none too few.
 fn check_words(name: &str, arguments: &[String]) -> Result<(), Misused> {
-    let Takes(words, valued, plain) = taken(name).ok_or_else(|| Misused(format!("there is no command {name}")))?;
+    let Takes(words, spare, valued, plain) =
+        taken(name).ok_or_else(|| Misused(format!("there is no command {name}")))?;
     let (mut found, mut rest) = (0, arguments.iter());
     while let Some(argument) = rest.next() {
         if valued.contains(&argument.as_str()) {
             rest.next().ok_or_else(|| Misused(format!("{argument} takes a value")))?;
         } else if !plain.contains(&argument.as_str()) {
             found += 1;
-            if found > words || argument.starts_with("--") {
+            if found > words.len() || argument.starts_with("--") {
                 return Err(Misused(format!("{name} doesn't take {argument}")));
             }
         }
     }
-    if found < words {
-        return Err(Misused(format!("{name} takes a folder")));
+    match words.get(found) {
+        Some(missing) if found + spare < words.len() => Err(Misused(format!("{name} takes {missing}"))),
+        _ => Ok(()),
     }
-    Ok(())
 }
 
 /// A reader that goes away, as `head` does, ends the program without a word.
@@ -97,15 +111,32 @@ fn number(arguments: &[String], name: &str, otherwise: u64) -> Result<u64, Box<d
     }
 }
 
-fn print_text(text_of: fn(&[u8]) -> String) -> Outcome {
-    let mut file = Vec::new();
-    io::stdin().read_to_end(&mut file)?;
-    io::stdout().write_all(text_of(&file).as_bytes())?;
+/// Prints what is answered to standard input.
+fn print_answer(answer_to: impl FnOnce(&[u8]) -> Vec<u8>) -> Outcome {
+    let mut input = Vec::new();
+    io::stdin().read_to_end(&mut input)?;
+    io::stdout().write_all(&answer_to(&input))?;
     Ok(true)
 }
 
-fn in_folder(arguments: &[String], run: fn(&Path) -> io::Result<bool>) -> Outcome {
-    Ok(run(Path::new(&arguments[0]))?)
+fn print_text(text_of: fn(&[u8]) -> String) -> Outcome {
+    print_answer(|file| text_of(file).into_bytes())
+}
+
+fn maker_named(word: &str) -> Result<Maker, Misused> {
+    Maker::named(word).ok_or_else(|| Misused(format!("{word} is no maker: A or B")))
+}
+
+fn print_script_text(words: &[String]) -> Outcome {
+    let maker = maker_named(&words[0])?;
+    let what = What::named(&words[1]).ok_or_else(|| Misused(format!("{} isn't 1, 2 or own", words[1])))?;
+    print_answer(|file| console::printed(console::file_text(file, what, maker)))
+}
+
+fn print_text_script(words: &[String]) -> Outcome {
+    let maker = maker_named(&words[0])?;
+    let kind = console::type_named(&words[1]).ok_or_else(|| Misused(format!("{} isn't 1 or 2", words[1])))?;
+    print_answer(|text| console::printed(console::text_script(text, kind, maker)))
 }
 
 fn write_inputs(arguments: &[String]) -> Outcome {
@@ -145,13 +176,12 @@ fn run_bench(_: &[String]) -> Outcome {
 
 fn other_side(arguments: &[String]) -> Result<compare::Other, Box<dyn Error>> {
     let library = arguments.iter().any(|argument| argument == "--library");
-    match ["--planlist", "--judgelist", "--showlist"].map(|name| option(arguments, name)) {
-        [None, None, None] if library => linked_library(),
-        [None, None, None] => Ok(compare::Other::Nobody),
-        [Some(planlist), Some(judgelist), Some(showlist)] if !library => {
-            Ok(compare::Other::Programs(compare::Programs::new(planlist, judgelist, showlist)))
-        }
-        _ => Err(Misused("either --library, or --planlist, --judgelist and --showlist together".into()).into()),
+    let programs: Vec<&str> = PROGRAMS.iter().filter_map(|name| option(arguments, name)).collect();
+    match <[&str; PROGRAMS.len()]>::try_from(programs) {
+        Ok(commands) if !library => Ok(compare::Other::Programs(compare::Programs::new(commands))),
+        Err(none) if none.is_empty() && library => linked_library(),
+        Err(none) if none.is_empty() => Ok(compare::Other::Nobody),
+        _ => Err(Misused(format!("either --library, or all of {}", PROGRAMS.join(", "))).into()),
     }
 }
 
@@ -170,11 +200,13 @@ fn run(arguments: &[String]) -> Outcome {
         "planlist" => print_text(text::plan_text),
         "judgelist" => print_text(text::judge_text),
         "showlist" => print_text(show::show_text),
-        "vectors" => in_folder(rest, vectors::run),
+        "scripttext" => print_script_text(rest),
+        "textscript" => print_text_script(rest),
+        "vectors" => Ok(vectors::run(Path::new(&rest[0]))?),
         "brute" => Ok(brute::run(number(rest, "--rules", 4)? as u16)),
         "inputs" => write_inputs(rest),
         "compare" => run_compare(rest),
-        "cases" => in_folder(rest, cases::run),
+        "cases" => Ok(cases::run(Path::new(&rest[0]), rest.get(1).map(Path::new))?),
         "bench" => run_bench(rest),
         _ => Err(Misused(format!("there is no command {name}")).into()),
     }

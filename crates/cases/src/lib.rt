@@ -1,6 +1,7 @@
-// What `vectors` and the case programs share: the files that their arguments name, rows, checksums, and the lines that they print.
+// What `vectors` and the case programs share: the files that their arguments name, rows, rooms, checksums, and the lines that they print.
 // A row is a two-byte length and that many bytes, again and again.
 
+ghost use mathlib.Core.Path.{_≡_};
 ghost use Prim.Native.Nat.{_≤_, _-_};
 ghost use lib.ListN.{length};
 ghost use Rattle.io.specs.Counts.{Counts};
@@ -93,6 +94,33 @@ pub fn checksum(bytes: &[u8], wide: bool) -> u32 {
         i += 1;
     }
     sum
+}
+
+// A room for any answer, all of whose bytes are the same.
+pub fn filled(byte: u8) -> [u8; 65536]
+    ensures { λ r. ⌜ 65536 ≡ length r ⌝ }
+{
+    [byte; 65536]
+}
+
+fn is_filled(room: &[u8], byte: u8) -> bool {
+    let mut i = 0;
+    while i < room.len() {
+        if room[i] != byte {
+            return false;
+        }
+        i += 1;
+    }
+    true
+}
+
+// Prints whether the bytes of a room are as they were.
+pub fn print_kept(room: &[u8], byte: u8) {
+    if is_filled(room, byte) {
+        io::write_all(STDOUT_FILENO, b" kept");
+    } else {
+        io::write_all(STDOUT_FILENO, b" changed");
+    }
 }
 
 pub fn print_number(word: &[u8], n: usize) {

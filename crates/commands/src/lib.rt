@@ -12,7 +12,7 @@ use format::two_at;
 use policy::Command;
 
 // "Type 1: code 1 `app r`, code 2 `del r`. Type 2: code 3 `ins i r`, code 4 `del i`, code 5 `mov i j`": whether a script type allows a code.
-fn allows(kind: u8, code: u8) -> bool
+pub fn allows(kind: u8, code: u8) -> bool
     ensures { λ r. ⌜ r ≡ mem code (codesOf kind) ⌝ }
 {
     match kind {

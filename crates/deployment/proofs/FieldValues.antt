@@ -84,10 +84,10 @@ use Rattle.deployment.proofs.Fields.{joined-snoc, map-snoc, catalogue-s
 use Rattle.deployment.proofs.RefusedValues.{each-map, policy-right}
 
 -- what holds of a value that is accepted
-abbrev Good : {A : Type 0} → (A → Type 0) → Checked A → Type 0
+abbrev pub Good : {A : Type 0} → (A → Type 0) → Checked A → Type 0
 Good P = Each P (λ why. Unit {0})
 
-good-then : {A B : Type 0} (P : A → Type 0) (R : B → Type 0) (read : Checked A) (next : A → Checked B)
+pub good-then : {A B : Type 0} (P : A → Type 0) (R : B → Type 0) (read : Checked A) (next : A → Checked B)
     → Good P read → ((a : A) → P a → Good R (next a)) → Good R (_>>=_ read next)
 good-then P R = each-then P R (λ why. Unit {0})
 

@@ -30,11 +30,13 @@ use Rattle.deployment.specs.declared.Why.the-variants.{
   NoScript,
   Room,
   Default,
+  NoCommand,
+  Beyond,
 }
 
 abbrev whys : List Why
 whys = Cut ∷ Tag ∷ NoTarget ∷ Length ∷ Bounds ∷ Equal ∷ TooMany
-    ∷ Outside ∷ Twice ∷ Keep ∷ Coding ∷ NoScript ∷ Room ∷ Default ∷ []
+    ∷ Outside ∷ Twice ∷ Keep ∷ Coding ∷ NoScript ∷ Room ∷ Default ∷ NoCommand ∷ Beyond ∷ []
 
 why-again : (why : Why) → numbered whyNumber whys (whyNumber why) ≡ some why
 unfolding numbered
@@ -52,12 +54,14 @@ why-again Coding = refl
 why-again NoScript = refl
 why-again Room = refl
 why-again Default = refl
+why-again NoCommand = refl
+why-again Beyond = refl
 
 pub why-numbers-differ : WhyNumbersDiffer
 why-numbers-differ = told-apart whyNumber (numbered whyNumber whys) why-again
 
--- the table's last number before those of commands, or the number of a default
-pub why-numbers : (why : Why) → (whyNumber why ≤ 13) ⊎ (whyNumber why ≡ 50)
+-- below those of commands and verdicts, or above them
+pub why-numbers : (why : Why) → (whyNumber why ≤ 13) ⊎ ((50 ≤ whyNumber why) × (whyNumber why ≤ 56))
 why-numbers Cut = inl (omega arith)
 why-numbers Tag = inl (omega arith)
 why-numbers NoTarget = inl (omega arith)
@@ -71,14 +75,16 @@ why-numbers Keep = inl (omega arith)
 why-numbers Coding = inl (omega arith)
 why-numbers NoScript = inl (omega arith)
 why-numbers Room = inl (omega arith)
-why-numbers Default = inr refl
+why-numbers Default = inr (omega arith, omega arith)
+why-numbers NoCommand = inr (omega arith, omega arith)
+why-numbers Beyond = inr (omega arith, omega arith)
 
-pub why-small : (why : Why) → whyNumber why ≤ 50
-why-small why = ⊎-elim (λ low. omega arith) (λ is. omega arith) (why-numbers why)
+pub why-small : (why : Why) → whyNumber why ≤ 56
+why-small why = ⊎-elim (λ low. omega arith) (λ is. is .1) (why-numbers why)
 
 -- no refusal has a number between: those are of commands and verdicts
 pub why-apart : (why : Why) → 20 ≤ whyNumber why → 50 ≤ whyNumber why
-why-apart why large = ⊎-elim (λ low. omega arith) (λ is. omega arith) (why-numbers why)
+why-apart why large = ⊎-elim (λ low. omega arith) (λ is. is .0) (why-numbers why)
 
 -- a number and a position
 pub both-same : {n m p q : ℕ} → _≡_ {A = List ℕ} (n ∷ p ∷ []) (m ∷ q ∷ []) → (n ≡ m) × (p ≡ q)

@@ -343,6 +343,21 @@ file-numbers file number at e = go (readFile file) (reading-own 0 nothing 0 file
     go (accepted c) own e = absurd (omega (arith, ap length e))
     go (refused refusal) own e = subst OwnNumber (both-same e .0) own
 
+-- none of them is the number for room, with a script or without
+pub never-room : (file : List ℕ) (at : ℕ) → ¬ (readingNumbers (readFile file) ≡ 13 ∷ at ∷ [])
+never-room file at e = ⊎-elim (λ low. omega arith) (λ is. omega arith) (file-numbers file 13 at e)
+
+pub never-room-to-judge : (file : List ℕ) (at : ℕ) → ¬ (readingNumbers (readToJudge file) ≡ 13 ∷ at ∷ [])
+unfolding readToJudge needsScript readingNumbers refusalNumbers
+never-room-to-judge file at e = go (readFile file) refl e
+  where
+    go : (reading : Reading) → readFile file ≡ reading → ¬ (readingNumbers (needsScript (length file) reading) ≡ 13 ∷ at ∷ [])
+    go (refused refusal) h e = never-room file at (ap readingNumbers h ∙ e)
+    go (accepted c) h e =
+        byOption (c .script)
+        (λ absent. omega (arith, both-same (rw (absent, needsScript) at e) .0))
+        (λ s there. omega (arith, ap length (rw (there, needsScript) at e)))
+
 pub refused-without-script : RefusedWithoutScript
 unfolding readToJudge needsScript readingNumbers refusalNumbers
 refused-without-script file at = (λ e. go (readFile file) refl e, λ h. rw (h .1, h .2, needsScript, h .3))

@@ -19,9 +19,12 @@ use Rattle.deployment.specs.declared.Why.the-variants.{
   NoScript,
   Room,
   Default,
+  NoCommand,
+  Beyond,
 }
 
--- the table's first column, and 02, L1: "50 for a value other than 1"
+-- the table's first column; 02, L1: "50 for a value other than 1"; L2: "55 .. for a line that isn't a command of that type, then 56 for a
+-- number above 65,535"
 abbrev pub whyNumber : Why → ℕ
 whyNumber Cut = 1
 whyNumber Tag = 2
@@ -37,6 +40,8 @@ whyNumber Coding = 11
 whyNumber NoScript = 12
 whyNumber Room = 13
 whyNumber Default = 50
+whyNumber NoCommand = 55
+whyNumber Beyond = 56
 
 -- the number of a refusal, and its position
 unfoldable pub refusalNumbers : Refusal → List ℕ

@@ -3,7 +3,7 @@
 
 use policy::Command;
 
-// Numbers 1 to 13 of "Turned away", and 50.
+// Numbers 1 to 13 of "Turned away", 50, 55 and 56.
 pub enum Why {
     Cut,
     Tag,
@@ -19,6 +19,8 @@ pub enum Why {
     NoScript,
     Room,
     Default,
+    NoCommand,
+    Beyond,
 }
 
 // The number's case, and the position.

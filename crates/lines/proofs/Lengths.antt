@@ -12,6 +12,8 @@ use Rattle.policy.specs.Command.{coded}
 use Rattle.policy.specs.Properties.{Allows}
 use Rattle.policy.specs.declared.Command.{Command}
 use Rattle.policy.specs.declared.Command.the-variants.{App, DelRule, Ins, DelPlace, Mov}
+use Rattle.console.specs.declared.Maker.{Maker}
+use Rattle.console.specs.declared.Maker.the-variants.{A, B}
 use Rattle.deployment.specs.Checked.{whyNumber}
 use Rattle.deployment.specs.File.{refused, readFile}
 use Rattle.deployment.specs.Properties.{AreBytes, Scripted, fieldsBytes}
@@ -23,7 +25,7 @@ use Rattle.policy.proofs.Types.{script-types}
 use Rattle.deployment.proofs.Numbers.{why-small}
 use Rattle.deployment.proofs.Reader.{refusal-row}
 use Rattle.deployment.proofs.Scripts.{type-small}
-use Rattle.lines.specs.Text.{text, decimal, spaced, named, commandText, lineText, linesText, headText, blockText, refusedText, spacedAll, verdictText}
+use Rattle.lines.specs.Text.{text, decimal, spaced, named, moveWords, wordsOf, secondText, commandText, lineText, linesText, headText, blockText, refusedText, spacedAll, verdictText}
 use Rattle.lines.specs.Printing.{most-number}
 use Rattle.lines.proofs.Digits.{length-decimal}
 
@@ -89,7 +91,41 @@ pub verdict-short : (v : Verdict) → length (spacedAll (verdictNumbers v)) ≤ 
 unfolding verdictText
 verdict-short v h = numbers-line-short (verdictNumbers v) h
 
--- Commands: those of type 1 have one number, those of type 2 at most two.
+-- A command in a maker's words: a name of four bytes and one number, or a name, two numbers and what stands between them.
+number-bytes : (n : ℕ) → n < 65537 → 4 + length (decimal n ++ []) ≤ 9
+number-bytes n small = omega (arith, length-append (decimal n) [], length-decimal 4 n (omega arith))
+
+numbers-bytes : (between : List ℕ) (i n : ℕ) → i < 65537 → n < 65537 → length (decimal i ++ (between ++ decimal n)) ≤ 10 + length between
+numbers-bytes between i n first second =
+    omega (
+      arith,
+      length-append (decimal i) (between ++ decimal n),
+      length-append between (decimal n),
+      length-decimal 4 i (omega arith),
+      length-decimal 4 n (omega arith),
+    )
+
+abbrev pub most-worded : Maker → ℕ
+most-worded A = 15
+most-worded B = 23
+
+of-either : (m : Maker) {size : ℕ} → size ≤ 15 → size ≤ most-worded m
+of-either A short = short
+of-either B short = omega arith
+
+pub worded-short : (m : Maker) (k : Command) → (coded k) .one < 65537 → (coded k) .two < 65537 → length (commandText m k) ≤ most-worded m
+unfolding commandText wordsOf moveWords secondText text coded
+worded-short m (App r) one two = of-either m (omega (arith, number-bytes r one))
+worded-short m (DelRule r) one two = of-either m (omega (arith, number-bytes r one))
+worded-short m (Ins i r) one two = of-either m (omega (arith, numbers-bytes (32 ∷ []) i r one two))
+worded-short m (DelPlace i) one two = of-either m (omega (arith, number-bytes i one))
+worded-short A (Mov i j) one two = omega (arith, numbers-bytes (32 ∷ []) i j one two)
+worded-short B (Mov i b) one two = omega (arith, numbers-bytes (text " before ") i b one two)
+
+pub command-short : (c : Command) → (coded c) .one < 65536 → (coded c) .two < 65536 → length (commandText A c) ≤ 15
+command-short c one two = worded-short A c (omega arith) (omega arith)
+
+-- Commands in document 01's words: those of type 1 have one number, those of type 2 at most two.
 unfoldable pub most-command : ℕ → ℕ
 most-command type = cond (eqb type 1) 9 15
 
@@ -102,33 +138,22 @@ module _ (type : ℕ) where
   unfolding most-command
   two-numbers is short = rw is short
 
-  pub command-of-type : (c : Command) → Allows type c → (coded c) .one < 65536 → (coded c) .two < 65536 → length (commandText c) ≤ most-command type
-  unfolding commandText named text coded
-  command-of-type (App r) allowed one two = one-number (script-types type .app r .0 allowed) (omega (arith, two-bytes-short r one))
-  command-of-type (DelRule r) allowed one two = one-number (script-types type .del-rule r .0 allowed) (omega (arith, two-bytes-short r one))
-  command-of-type (Ins i r) allowed one two =
-      two-numbers (script-types type .ins i r .0 allowed) (omega (arith, length-append (spaced i) (spaced r), two-bytes-short i one, two-bytes-short r two))
-  command-of-type (DelPlace i) allowed one two = two-numbers (script-types type .del-place i .0 allowed) (omega (arith, two-bytes-short i one))
-  command-of-type (Mov i j) allowed one two =
-      two-numbers (script-types type .mov i j .0 allowed) (omega (arith, length-append (spaced i) (spaced j), two-bytes-short i one, two-bytes-short j two))
-
--- of either type
-pub command-short : (c : Command) → (coded c) .one < 65536 → (coded c) .two < 65536 → length (commandText c) ≤ 15
-unfolding commandText named text coded
-command-short (App r) one two = omega (arith, two-bytes-short r one)
-command-short (DelRule r) one two = omega (arith, two-bytes-short r one)
-command-short (Ins i r) one two = omega (arith, length-append (spaced i) (spaced r), two-bytes-short i one, two-bytes-short r two)
-command-short (DelPlace i) one two = omega (arith, two-bytes-short i one)
-command-short (Mov i j) one two = omega (arith, length-append (spaced i) (spaced j), two-bytes-short i one, two-bytes-short j two)
+  pub command-of-type : (c : Command) → Allows type c → (coded c) .one < 65536 → (coded c) .two < 65536 → length (commandText A c) ≤ most-command type
+  unfolding commandText wordsOf moveWords secondText text coded
+  command-of-type (App r) allowed one two = one-number (script-types type .app r .0 allowed) (omega (arith, number-bytes r (omega arith)))
+  command-of-type (DelRule r) allowed one two = one-number (script-types type .del-rule r .0 allowed) (omega (arith, number-bytes r (omega arith)))
+  command-of-type (Ins i r) allowed one two = two-numbers (script-types type .ins i r .0 allowed) (command-short (Ins i r) one two)
+  command-of-type (DelPlace i) allowed one two = two-numbers (script-types type .del-place i .0 allowed) (command-short (DelPlace i) one two)
+  command-of-type (Mov i j) allowed one two = two-numbers (script-types type .mov i j .0 allowed) (command-short (Mov i j) one two)
 
 -- A line has six bytes besides the command: a step of four digits, a blank and the end of the line.
-line-short : (most step : ℕ) (c : Command) → step < 10000 → length (commandText c) ≤ most → length (lineText step c) ≤ 6 + most
+line-short : (most step : ℕ) (c : Command) → step < 10000 → length (commandText A c) ≤ most → length (lineText step c) ≤ 6 + most
 unfolding lineText text
 line-short most step c few short = simp length-append (omega (arith, length-decimal 3 step few))
 
 -- lines whose commands have at most so many bytes
 pub lines-within : (most step : ℕ) (script : List Command) → step + length script ≤ 10000
-    → ((c : Command) → List·Memᴰ c script → length (commandText c) ≤ most) → length (linesText step script) ≤ (6 + most) * length script
+    → ((c : Command) → List·Memᴰ c script → length (commandText A c) ≤ most) → length (linesText step script) ≤ (6 + most) * length script
 unfolding linesText
 lines-within most step [] few short = omega arith
 lines-within most step (c ∷ script) few short =
@@ -141,7 +166,7 @@ lines-within most step (c ∷ script) few short =
     )
 
 pub lines-short : (step : ℕ) (script : List Command) → step + length script ≤ 10000
-    → ((c : Command) → List·Memᴰ c script → length (commandText c) ≤ 15) → length (linesText step script) ≤ 21 * length script
+    → ((c : Command) → List·Memᴰ c script → length (commandText A c) ≤ 15) → length (linesText step script) ≤ 21 * length script
 lines-short step script few short = lines-within 15 step script few short
 
 -- A plan's block, by its script's type.

@@ -2,12 +2,16 @@
 -- place on. Assumes nothing.
 use Prim.Native.Nat.{ℕ, _^_, _≤_, _<_}
 use native.Mathlib.Omega.{arith}
-use mathlib.Core.Path.{_≡_}
+use mathlib.Core.Path.{_≡_, refl}
 use mathlib.Core.List.{List, [], _∷_, _++_, append-nil}
 use lib.ListN.{length, length-append}
 use Rattle.deployment.proofs.Storing.{stored-more}
 use Rattle.lines.specs.Text.{spaced, spacedAll}
 use Rattle.lines.specs.Printing.{Puts, Whole}
+
+-- nothing put
+pub puts-none : {place : List ℕ} {at : ℕ} → Puts place at [] place at
+puts-none = record { stored = λ fits. record { place = refl; end = omega arith } }
 
 pub puts-more : {old middle place : List ℕ} {at next end : ℕ} {piece rest : List ℕ} → Puts old at piece middle next → Puts middle next rest place end
     → Puts old at (piece ++ rest) place end

@@ -2,11 +2,14 @@
 use Prim.Native.Nat.{ℕ, _+_, _*_, _^_, _≤_, _<_}
 use mathlib.Core.Path.{_≡_}
 use mathlib.Core.Logic.{_⊎_}
+use mathlib.Core.Bool.{cond}
 use mathlib.Core.List.{List}
-use lib.ListN.{length}
+use mathlib.Core.Option.{none, some}
+use lib.ListN.{length, take}
 use Rattle.deployment.specs.FieldValues.{Stored}
 use Rattle.deployment.specs.Properties.{AreBytes}
-use Rattle.lines.specs.Text.{spacedAll}
+use Rattle.lines.specs.Text.{Words, spacedAll}
+use Rattle.lines.specs.declared.phrases.Phrase.{Phrase}
 
 -- a file whose positions have 64 bits, as every lent one
 abbrev pub IsFile : List ℕ → Type 0
@@ -15,6 +18,20 @@ IsFile file = AreBytes file × (length file < 2 ^ 64)
 -- bytes put from a position on, and the position behind them, wherever 64 bits hold it
 pub record Puts (before : List ℕ) (at : ℕ) (bytes after : List ℕ) (next : ℕ) : Type 0 where
   pub stored : at + length bytes < 2 ^ 64 → Stored before at bytes after next
+
+-- the words that a phrase holds
+unfoldable pub wordsIn : Phrase → Words
+wordsIn p =
+    record {
+      name = take (p .«name_bytes») (p .name);
+      between = cond (p .two) (some (take (p .«between_bytes») (p .between))) none;
+    }
+
+-- a phrase whose words stand inside its arrays
+pub record Holds (p : Phrase) (words : Words) : Type 0 where
+  pub name-inside : p .«name_bytes» ≤ length (p .name)
+  pub between-inside : p .«between_bytes» ≤ length (p .between)
+  pub holds : wordsIn p ≡ words
 
 -- numbers put one behind the other, each of at most twenty digits behind a blank
 abbrev pub most-number : ℕ

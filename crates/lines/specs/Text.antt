@@ -2,14 +2,17 @@
 use Prim.Native.Nat.{ℕ, zero, suc, _+_, _/_, _%_}
 use Prim.Native.String.{String}
 use Prim.Native.Char.{Char, code}
-use mathlib.Core.Bool.{true, false}
+use mathlib.Core.Bool.{true, false, cond, _||_}
 use mathlib.Core.List.{List, [], _∷_, _++_}
+use mathlib.Core.Option.{Option, none, some}
 use lib.ListN.{length}
-use lib.Dec.{ltb}
+use lib.Dec.{eqb, ltb}
+use Rattle.policy.specs.Command.{coded}
 use Rattle.policy.specs.Judge.{verdictNumbers}
 use Rattle.policy.specs.declared.Command.{Command}
-use Rattle.policy.specs.declared.Command.the-variants.{App, DelRule, Ins, DelPlace, Mov}
 use Rattle.policy.specs.declared.Verdict.{Verdict}
+use Rattle.console.specs.declared.Maker.{Maker}
+use Rattle.console.specs.declared.Maker.the-variants.{A, B}
 use Rattle.deployment.specs.Checked.{whyNumber}
 use Rattle.deployment.specs.declared.Refusal.{Refusal}
 
@@ -35,17 +38,38 @@ spaced n = text " " ++ decimal n
 unfoldable pub named : String → ℕ → List ℕ
 named word n = text word ++ spaced n
 
--- "the command's name and its numbers"
-unfoldable pub commandText : Command → List ℕ
-commandText (App r) = named "app" r
-commandText (DelRule r) = named "del" r
-commandText (Ins i r) = named "ins" i ++ spaced r
-commandText (DelPlace i) = named "del" i
-commandText (Mov i j) = named "mov" i ++ spaced j
+-- The fixed words of a command: its name, and what stands between its numbers if it has two. "Words and numbers are parted by one blank" (02, L2).
+pub record Words : Type 0 where
+  pub name : List ℕ
+  pub between : Option (List ℕ)
 
--- "A line gives the step, the command's name and its numbers."
+-- "B differs in one: `move i before b`" (02, L2)
+unfoldable pub moveWords : Maker → Words
+moveWords A = record { name = text "mov "; between = some (text " ") }
+moveWords B = record { name = text "move "; between = some (text " before ") }
+
+-- the words of each code, a row for each name; what is printed and what is read of console text go by this table
+unfoldable pub wordsOf : Maker → ℕ → Words
+wordsOf m code =
+    cond (eqb code 1) (record { name = text "app "; between = none })
+    (cond (eqb code 2 || eqb code 4) (record { name = text "del "; between = none })
+    (cond (eqb code 3) (record { name = text "ins "; between = some (text " ") })
+    (moveWords m)))
+
+-- the second number behind its word, if there is one
+unfoldable pub secondText : Option (List ℕ) → ℕ → List ℕ
+secondText none n = []
+secondText (some word) n = word ++ decimal n
+
+-- "the command's name and its numbers", of a command in the words of a maker
+unfoldable pub commandText : Maker → Command → List ℕ
+commandText m k =
+    let words = wordsOf m ((coded k) .code) in
+    words .name ++ (decimal ((coded k) .one) ++ secondText (words .between) ((coded k) .two))
+
+-- "A line gives the step, the command's name and its numbers", in the words of document 01, which are maker A's
 unfoldable pub lineText : ℕ → Command → List ℕ
-lineText step c = decimal step ++ (text " " ++ (commandText c ++ text "\n"))
+lineText step c = decimal step ++ (text " " ++ (commandText A c ++ text "\n"))
 
 -- a line for each command; the first argument is the step of the first
 unfoldable pub linesText : ℕ → List Command → List ℕ

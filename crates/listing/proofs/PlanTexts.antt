@@ -15,7 +15,7 @@ use Rattle.deployment.specs.Bytes.{number, part}
 use Rattle.deployment.specs.Values.{scriptOf}
 use Rattle.deployment.specs.Contents.{Contents}
 use Rattle.deployment.specs.File.{accepted, refused, readFile, head-bytes}
-use Rattle.deployment.specs.Properties.{Valid}
+use Rattle.deployment.specs.Properties.{Scripted, Valid}
 use Rattle.deployment.specs.declared.Refusal.{Refusal}
 use Rattle.replay.specs.Answers.{commandsOf}
 use Rattle.deployment.specs.FieldValues.{Left, leftBy}
@@ -57,8 +57,9 @@ not-turned {refusal = refusal} reads is =
     let z : _≡_ {A = ℕ} 0 1 = cc in
     omega arith
 
--- What the text needs of a planner: room for its field, a field that reads back, and a block that is not too long.
+-- What the text needs of a planner: a script that a file can hold, room for its field, a field that reads back, and a block that is not too long.
 pub record Prints (c : Contents) (planner : Contents → Made) : Type 0 where
+  pub right : Scripted (planner c .script)
   pub room : length (scriptField (planner c)) ≤ enough-bytes
   pub held : (place : List ℕ) → (planned planner (accepted c) place) .answer ≡ Done (planOf (planner c))
       → Holds (planner c .script .type) (planner c .script .commands) (planOf (planner c)) place ((planned planner (accepted c) place) .place)
@@ -106,6 +107,7 @@ module _ (c : Contents) (valid : Valid c) where
       let script = madeOne c .script in
       let right = scripted c valid 1 (script-types 1 .types .1 (inl refl)) (script .commands) (plans-few c valid .0) reaches in
       record {
+        right = right;
         room = room-for-every c valid .0;
         held = λ place done. one-holds c place (planOf (madeOne c)) valid done .holds .written;
         short =
@@ -122,6 +124,7 @@ module _ (c : Contents) (valid : Valid c) where
       let script = madeTwo c .script in
       let right = scripted c valid 2 (script-types 2 .types .1 (inr refl)) (script .commands) (plans-few c valid .1) reaches in
       record {
+        right = right;
         room = room-for-every c valid .1;
         held = λ place done. two-holds c place (planOf (madeTwo c)) valid done .holds .written;
         short =

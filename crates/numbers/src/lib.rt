@@ -19,7 +19,7 @@ pub fn fault_number(fault: Fault) -> u8
     }
 }
 
-// Numbers 1 to 13 of "Turned away", and 50.
+// Numbers 1 to 13 of "Turned away", 50, 55 and 56.
 pub fn why_number(why: Why) -> u8
     ensures { λ n. ⌜ n ≡ whyNumber why ⌝ }
 {
@@ -38,5 +38,7 @@ pub fn why_number(why: Why) -> u8
         Why::NoScript => 12,
         Why::Room => 13,
         Why::Default => 50,
+        Why::NoCommand => 55,
+        Why::Beyond => 56,
     }
 }

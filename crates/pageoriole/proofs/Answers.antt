@@ -17,6 +17,11 @@ use Rattle.pageoriole.proofs.files.pageoriole_judge_file.Reads as judge
 use Rattle.pageoriole.proofs.files.pageoriole_plan_text.Reads as plan-text
 use Rattle.pageoriole.proofs.files.pageoriole_show_text.Reads as show-text
 use Rattle.pageoriole.proofs.files.pageoriole_judge_text.Reads as judge-text
+use Rattle.pageoriole.proofs.texts.pageoriole_script_text.Reads as script-text
+use Rattle.pageoriole.proofs.texts.pageoriole_script_text_file.Reads as script-text-file
+use Rattle.pageoriole.proofs.texts.pageoriole_plan_one_text.Reads as plan-one-text
+use Rattle.pageoriole.proofs.texts.pageoriole_plan_two_text.Reads as plan-two-text
+use Rattle.pageoriole.proofs.texts.pageoriole_text_script.Reads as text-script
 use Rattle.pageoriole.proofs.lists.pageoriole_check.Reads as check
 use Rattle.pageoriole.proofs.lists.pageoriole_write.Reads as write
 use Rattle.pageoriole.proofs.lists.pageoriole_decide.Reads as decide
@@ -75,6 +80,26 @@ one-judge-text κ a r s e f p q = one-left p q
 pub one-show-text : (κ : _) (a : _) (r s : ℕ) (e f : _) → show-text.Post κ a r e → show-text.Post κ a s f
     → (r ≡ s) × (now (e .1 .1 .0) ≡ now (f .1 .1 .0)) × (now (e .1 .0) ≡ now (f .1 .0))
 one-show-text κ a r s e f p q = one-left p q
+
+pub one-script-text : (κ : _) (a : _) (r s : ℕ) (e f : _) → script-text.Post κ a r e → script-text.Post κ a s f
+    → (r ≡ s) × (now (e .1 .1 .1 .0) ≡ now (f .1 .1 .1 .0)) × (now (e .1 .1 .0) ≡ now (f .1 .1 .0))
+one-script-text κ a r s e f p q = one-left p q
+
+pub one-script-text-file : (κ : _) (a : _) (r s : ℕ) (e f : _) → script-text-file.Post κ a r e → script-text-file.Post κ a s f
+    → (r ≡ s) × (now (e .1 .1 .1 .0) ≡ now (f .1 .1 .1 .0)) × (now (e .1 .1 .0) ≡ now (f .1 .1 .0))
+one-script-text-file κ a r s e f p q = one-left p q
+
+pub one-plan-one-text : (κ : _) (a : _) (r s : ℕ) (e f : _) → plan-one-text.Post κ a r e → plan-one-text.Post κ a s f
+    → (r ≡ s) × (now (e .1 .1 .1 .0) ≡ now (f .1 .1 .1 .0)) × (now (e .1 .1 .0) ≡ now (f .1 .1 .0))
+one-plan-one-text κ a r s e f p q = one-left p q
+
+pub one-plan-two-text : (κ : _) (a : _) (r s : ℕ) (e f : _) → plan-two-text.Post κ a r e → plan-two-text.Post κ a s f
+    → (r ≡ s) × (now (e .1 .1 .1 .0) ≡ now (f .1 .1 .1 .0)) × (now (e .1 .1 .0) ≡ now (f .1 .1 .0))
+one-plan-two-text κ a r s e f p q = one-left p q
+
+pub one-text-script : (κ : _) (a : _) (r s : ℕ) (e f : _) → text-script.Post κ a r e → text-script.Post κ a s f
+    → (r ≡ s) × (now (e .1 .1 .1 .1 .0) ≡ now (f .1 .1 .1 .1 .0)) × (now (e .1 .1 .1 .0) ≡ now (f .1 .1 .1 .0))
+one-text-script κ a r s e f p q = one-left p q
 
 pub one-check : (κ : _) (a : _) (r s : ℕ) (e f : _) → check.Post κ a r e → check.Post κ a s f
     → (r ≡ s) × (now (e .1 .1 .1 .1 .1 .1 .1 .1 .1 .0) ≡ now (f .1 .1 .1 .1 .1 .1 .1 .1 .1 .0))

@@ -28,9 +28,16 @@ length-records : (commands : List Command) → length (records commands) ≡ 5 *
 unfolding records scriptBytes bytesOf
 length-records commands = omega (arith, length-script (record { type = 0; commands = commands }), length-append (bytesOf 1 0) (records commands))
 
-one-record : (c : Command) → records (c ∷ []) ≡ codedBytes (coded c)
+pub one-record : (c : Command) → records (c ∷ []) ≡ codedBytes (coded c)
 unfolding records joined
 one-record c = append-nil (codedBytes (coded c))
+
+-- records right behind records, the first of the later ones as number m
+pub records-more : (old : List ℕ) (n m : ℕ) (first then : List Command) → m ≡ n + length first
+    → sets (sets old (4 + 5 * n) (records first)) (4 + 5 * m) (records then) ≡ sets old (4 + 5 * n) (records (first ++ then))
+records-more old n m first then is =
+    let at : 4 + 5 * m ≡ 4 + 5 * n + length (records first) = omega (arith, length-records first) in
+    rw (at, records-append first then) (sets-sets old (4 + 5 * n) (records first) (records then))
 
 -- Nothing is sent at first.
 pub none-sent : (old : List ℕ) (n : ℕ) → length old ≡ 5124 → n ≤ 1024 → Sent old n [] old
@@ -41,14 +48,13 @@ none-sent old n long few = record { long = long; few = omega arith; put = refl }
 pub sent-more : {old middle field : List ℕ} {n : ℕ} {first then : List Command} (m : ℕ) → Sent old n first middle → m ≡ n + length first
     → Sent middle m then field → Sent old n (first ++ then) field
 sent-more {old} {middle} {field} {n} {first} {then} m before is after =
-    let at : 4 + 5 * m ≡ 4 + 5 * n + length (records first) = omega (arith, length-records first) in
     record {
       long = after .long;
       few = omega (arith, length-append first then, after .few);
       put =
           after .put
           ∙ ap (λ (l : List ℕ). sets l (4 + 5 * m) (records then)) (before .put)
-          ∙ (rw (at, records-append first then) (sets-sets old (4 + 5 * n) (records first) (records then)));
+          ∙ records-more old n m first then is;
     }
 
 -- one more command, put as number m
@@ -76,20 +82,26 @@ pub length-field : (s : Script) → length (fieldBytes script-tag (scriptBytes s
 unfolding fieldBytes bytesOf
 length-field s = omega (arith, length-script s)
 
--- What is sent from command number 0 on, with the head, is the script's field at the front of the place.
-pub closed-sent : {old field next : List ℕ} {commands : List Command} (type n : ℕ) → Sent old 0 commands field
-    → n ≡ length commands → next ≡ sets field 0 (scriptHead type n)
+-- The records from command number 0 on, with the head, are the script's field at the front of a place that has room for it.
+pub closed-put : (old : List ℕ) {field next : List ℕ} (commands : List Command) (type n : ℕ) → 4 + 5 * length commands ≤ length old
+    → field ≡ sets old 4 (records commands) → n ≡ length commands → next ≡ sets field 0 (scriptHead type n)
     → next ≡ filled old (fieldBytes script-tag (scriptBytes (record { type = type; commands = commands })))
 unfolding filled scriptHead bytesOf
-closed-sent {old} {field} {next} {commands} type n sent is e =
-    let same : length field ≡ length old = ap length (sent .put) ∙ length-sets old 4 (records commands) in
+closed-put old {field} commands type n room put is e =
+    let same : length field ≡ length old = ap length put ∙ length-sets old 4 (records commands) in
     let inside : 4 + length (records commands) ≤ length old = omega (arith, length-records commands) in
     let behind : drop 4 field ≡ records commands ++ drop (4 + length (records commands)) old =
-    ap (drop 4) (sent .put ∙ sets-eq (records commands) old 4 inside)
+    ap (drop 4) (put ∙ sets-eq (records commands) old 4 inside)
     ∙ (rw append-assoc (drop-at (take 4 old) _ 4 (length-take-le 4 old (omega arith)))) in
     let counted : 4 + length (records commands) ≡ length (scriptHead type (length commands) ++ records commands) = omega arith in
     e ∙ sets-eq (scriptHead type n) field 0 (omega arith)
     ∙ rw (behind, is, counted, field-parts (record { type = type; commands = commands }))
+
+pub closed-sent : {old field next : List ℕ} {commands : List Command} (type n : ℕ) → Sent old 0 commands field
+    → n ≡ length commands → next ≡ sets field 0 (scriptHead type n)
+    → next ≡ filled old (fieldBytes script-tag (scriptBytes (record { type = type; commands = commands })))
+closed-sent {old} {commands} type n sent is e =
+    closed-put old commands type n (omega (arith, sent .few, sent .long, ap length (sent .put), length-sets old 4 (records commands))) (sent .put) is e
 
 -- A planner's answer: its count and its bytes are those of the field.
 pub placed : {old field next : List ℕ} {plan : Plan} (made : Made) (kept n : ℕ) → kept ≡ made .kept → n ≡ length (made .script .commands)

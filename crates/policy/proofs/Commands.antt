@@ -27,7 +27,7 @@ use Rattle.policy.proofs.Order.{distinct-around, around-distinct}
 use Rattle.policy.proofs.Numbers.{fault-numbers-differ, fault-below}
 
 -- A place in its range, and off it.
-within-on : (i top : ℕ) → within i top ≡ true → (1 ≤ i) × (i ≤ top)
+pub within-on : (i top : ℕ) → within i top ≡ true → (1 ≤ i) × (i ≤ top)
 unfolding within
 within-on i top e = let both = and-both (leb 1 i) (leb i top) e in (leb-true 1 i (both .0), leb-true i top (both .1))
 
@@ -53,7 +53,7 @@ not-outside : (r size : ℕ) → ¬ (size ≤ r) → ltb r size ≡ true
 not-outside r size h = truly (λ f. h (ltb-false r size f))
 
 -- A place cuts the list around its rule, or between two rules.
-cut-around : (i : ℕ) (l : List ℕ) → within i (length l) ≡ true
+pub cut-around : (i : ℕ) (l : List ℕ) → within i (length l) ≡ true
     → (u : List ℕ) × (x : ℕ) × (v : List ℕ) × (i ≡ suc (length u)) × (l ≡ u ++ (x ∷ v))
 cut-around i l e =
     let on = within-on i (length l) e in

@@ -7,6 +7,7 @@ use deployment::Written;
 use libc::STDERR_FILENO;
 use libc::STDIN_FILENO;
 use libc::STDOUT_FILENO;
+use lines::outcomes::put_refused;
 
 // How many bytes came in, or that reading failed.
 pub enum Input {
@@ -91,7 +92,7 @@ pub fn first<'a>(place: &'a [u8], n: usize) -> &'a [u8]
 }
 
 // Prints a text whole, or says on standard error that it isn't: a text that is cut off can read as another.
-fn print_whole(text: &[u8]) {
+pub fn print_whole(text: &[u8]) {
     if !io::write_all(STDOUT_FILENO, text) {
         io::write_all(STDERR_FILENO, b"cannot write the answer\n");
     }
@@ -102,6 +103,17 @@ pub fn print(place: &[u8], written: Written) {
     if let Written::Bytes(n) = written {
         print_whole(first(place, n));
     }
+}
+
+// Prints what was written into the place, or the refusal's line.
+pub fn print_answer(place: &[u8], written: Written) {
+    if let Written::Turned(refusal) = written {
+        let mut line = io::buffer();
+        let n = put_refused(&mut line, refusal);
+        print_whole(first(&line, n));
+        return;
+    }
+    print(place, written);
 }
 
 // The one answer to input that can't be read.

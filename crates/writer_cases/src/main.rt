@@ -2,12 +2,13 @@
 // how they are read back; and whether every other byte is as it was. Each argument names a file with one row. A case: two bytes for the
 // size of the place, one that fills it, three that say whether there is a default, a keep list and a script; then the six values, a row.
 
-ghost use mathlib.Core.Path.{_≡_};
 ghost use Prim.Native.Nat.{_≤_};
 ghost use lib.ListN.{length};
 use cases::bytes_at;
 use cases::checksum;
+use cases::filled;
 use cases::next_place;
+use cases::print_kept;
 use cases::print_number;
 use cases::print_reading;
 use cases::print_refusal;
@@ -21,31 +22,6 @@ use reader::file::read;
 use reader::file::value;
 
 const HEAD_BYTES: usize = 6;
-
-fn filled(byte: u8) -> [u8; 65536]
-    ensures { λ r. ⌜ 65536 ≡ length r ⌝ }
-{
-    [byte; 65536]
-}
-
-fn is_filled(room: &[u8], byte: u8) -> bool {
-    let mut i = 0;
-    while i < room.len() {
-        if room[i] != byte {
-            return false;
-        }
-        i += 1;
-    }
-    true
-}
-
-fn print_kept(room: &[u8], byte: u8) {
-    if is_filled(room, byte) {
-        io::write_all(STDOUT_FILENO, b" kept");
-    } else {
-        io::write_all(STDOUT_FILENO, b" changed");
-    }
-}
 
 // The answer, and what was left in the room, whose first bytes are the place.
 fn print_answer(answer: Written, room: &[u8], byte: u8) {

@@ -1,5 +1,7 @@
 //! What is answered to one input, and the first difference of two.
 
+use super::input::Program;
+
 /// What a lent place and lent words hold before a call.
 pub const LENT_BYTE: u8 = 0xa5;
 pub const LENT_WORD: u64 = 0xa5a5_a5a5_a5a5_a5a5;
@@ -37,41 +39,46 @@ impl std::fmt::Debug for Answer {
     }
 }
 
+/// What a program prints.
+pub type Printed = (Program, Vec<u8>);
+
 /// The answers of one implementation to one input. An implementation that
 /// doesn't offer the entries leaves them out, and they aren't compared.
 pub struct Answers {
-    pub plan_text: String,
-    pub judge_text: String,
-    pub show_text: String,
+    pub printed: Vec<Printed>,
     pub entries: Option<Vec<Answer>>,
 }
 
 /// Answers to one question that differ, as they are printed.
 pub type Difference = (String, String);
 
-fn text_difference(one: &str, two: &str) -> Option<Difference> {
-    (one != two).then(|| (one.to_string(), two.to_string()))
+/// A script field is shown in letters.
+fn shown((program, bytes): &Printed) -> String {
+    match program {
+        Program::Textscript(..) => format!("{program:?}: {}", bytes.escape_ascii()),
+        _ => format!("{program:?}:\n{}", String::from_utf8_lossy(bytes)),
+    }
 }
 
-fn entry_difference(one: &[Answer], two: &[Answer]) -> Option<Difference> {
+/// The first of two lists of equal length that differ.
+fn difference<T: PartialEq>(one: &[T], two: &[T], show: fn(&T) -> String) -> Option<Difference> {
     if one.len() != two.len() {
-        return Some((format!("{} entries", one.len()), format!("{} entries", two.len())));
+        return Some((format!("{} answers", one.len()), format!("{} answers", two.len())));
     }
     let (one, two) = one.iter().zip(two).find(|(one, two)| one != two)?;
-    Some((format!("{one:?}"), format!("{two:?}")))
+    Some((show(one), show(two)))
 }
 
 impl Answers {
-    /// How many answers there are: three texts, and the entries that are offered.
+    /// How many answers there are: what is printed, and the entries that are offered.
     pub fn count(&self) -> usize {
-        3 + self.entries.as_ref().map_or(0, Vec::len)
+        self.printed.len() + self.entries.as_ref().map_or(0, Vec::len)
     }
 
     /// The first answer that isn't the other's.
     pub fn difference(&self, other: &Answers) -> Option<Difference> {
-        let texts = text_difference(&self.plan_text, &other.plan_text)
-            .or_else(|| text_difference(&self.judge_text, &other.judge_text))
-            .or_else(|| text_difference(&self.show_text, &other.show_text));
-        texts.or_else(|| entry_difference(self.entries.as_ref()?, other.entries.as_ref()?))
+        let printed = difference(&self.printed, &other.printed, shown);
+        let entries = || difference(self.entries.as_ref()?, other.entries.as_ref()?, |answer| format!("{answer:?}"));
+        printed.or_else(entries)
     }
 }

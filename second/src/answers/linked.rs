@@ -1,22 +1,23 @@
 //! The answers of the linked library, in the order of ours.
 
 use super::answer::{Answer, Answers, LENT_BYTE};
-use super::input::Input;
+use super::input::{Input, Program, Rooms};
+use crate::console::{Maker, What};
 use crate::library;
 use crate::policy::PolicyValues;
 
-/// No text is longer.
+/// No text is longer, and no console text or script field.
 const TEXT_BYTES: usize = 262_144;
+const CONSOLE_BYTES: usize = 65_536;
 
-type Texts = fn(&[u8], &mut [u8], &mut [u64]) -> u32;
-
-fn text(entry: Texts, file: &[u8]) -> String {
-    let mut place = vec![LENT_BYTE; TEXT_BYTES];
-    let mut bytes = [0];
-    let number = entry(file, &mut place, &mut bytes);
-    match (number, place.get(..bytes[0] as usize)) {
-        (0, Some(text)) => String::from_utf8_lossy(text).into_owned(),
-        _ => format!("number {number}, {} bytes", bytes[0]),
+/// What is written into ample room; or the refusal's line.
+fn text(room: usize, call: impl FnOnce(&mut [u8], &mut [u64]) -> u32) -> Vec<u8> {
+    let mut place = vec![LENT_BYTE; room];
+    let mut word = [0];
+    let number = call(&mut place, &mut word);
+    match (number, place.get(..word[0] as usize)) {
+        (0, Some(text)) => text.to_vec(),
+        _ => format!("refused {number} at {}\n", word[0]).into_bytes(),
     }
 }
 
@@ -73,10 +74,49 @@ fn over_values(input: &Input) -> Vec<Answer> {
     all
 }
 
+const OF_FILE: [&str; 3] = ["console text of file", "console text of plan 1", "console text of plan 2"];
+
+fn of_texts(input: &Input) -> Vec<Answer> {
+    let Rooms { script_texts, file_texts, text_scripts, .. } = input.rooms;
+    let mut all = Vec::new();
+    for (maker, room) in Maker::BOTH.into_iter().zip(script_texts) {
+        all.push(Answer::lend("console text of script", room, |place, words| {
+            library::script_text(input.lent_script(), maker, place, words)
+        }));
+    }
+    for ((what, rooms), entry) in What::ALL.into_iter().zip(file_texts).zip(OF_FILE) {
+        for (maker, room) in Maker::BOTH.into_iter().zip(rooms) {
+            all.push(Answer::lend(entry, room, |place, words| {
+                library::file_text(&input.file, what, maker, place, words)
+            }));
+        }
+    }
+    for (made, room) in input.texts.iter().zip(text_scripts) {
+        all.push(Answer::lend("script of console text", room, |place, words| {
+            library::text_script(&made.text, made.kind, made.maker, place, words)
+        }));
+    }
+    all
+}
+
+fn printed(program: Program, input: &[u8]) -> Vec<u8> {
+    match program {
+        Program::Planlist => text(TEXT_BYTES, |place, words| library::plan_text(input, place, words)),
+        Program::Judgelist => text(TEXT_BYTES, |place, words| library::judge_text(input, place, words)),
+        Program::Showlist => text(TEXT_BYTES, |place, words| library::show_text(input, place, words)),
+        Program::Scripttext(maker, what) => {
+            text(CONSOLE_BYTES, |place, words| library::file_text(input, what, maker, place, words))
+        }
+        Program::Textscript(maker, kind) => {
+            text(CONSOLE_BYTES, |place, words| library::text_script(input, kind, maker, place, words))
+        }
+    }
+}
+
 pub fn linked(input: &Input) -> Answers {
     let mut entries = over_files(input);
     entries.extend(over_values(input));
-    let (plan_text, judge_text) = (text(library::plan_text, &input.file), text(library::judge_text, &input.file));
-    let show_text = text(library::show_text, &input.file);
-    Answers { plan_text, judge_text, show_text, entries: Some(entries) }
+    entries.extend(of_texts(input));
+    let print = |(program, input)| (program, printed(program, input));
+    Answers { printed: input.questions().into_iter().map(print).collect(), entries: Some(entries) }
 }

@@ -1,11 +1,12 @@
 //! Our answers, each brought to a number with its values.
 
 use super::answer::{Answer, Answers};
-use super::input::{Input, Rooms};
+use super::input::{Input, Program, Rooms};
 use crate::commands::commands_of;
+use crate::console::{self, Maker, What};
 use crate::file::{self, Contents, Values};
 use crate::format::{list_value, numbers, Refusal};
-use crate::inputs::RoomMaker;
+use crate::inputs::{MadeText, RoomMaker};
 use crate::judge::judge;
 use crate::plan::plan_contents;
 use crate::policy::{self, Decision, Policy, PolicyValues};
@@ -85,6 +86,11 @@ fn put_text(text: &str, place: &mut [u8]) -> Outcome {
     written(file::put(text.as_bytes(), place))
 }
 
+/// What is refused for its room alone comes last.
+fn put_bytes(bytes: Result<Vec<u8>, Refusal>, place: &mut [u8]) -> Outcome {
+    written(bytes.and_then(|bytes| file::put(&bytes, place)))
+}
+
 /// Values tested with the script that is lent beside them.
 fn scripted<'a>(values: &Values<'a>, script: &'a [u8]) -> Scripted<'a> {
     file::check(&Values { script: Some(script), ..*values }).map(|contents| (contents, script))
@@ -94,6 +100,11 @@ fn scripted<'a>(values: &Values<'a>, script: &'a [u8]) -> Scripted<'a> {
 fn to_replay(input: &Input) -> Scripted<'_> {
     let values = Values { target: &[], keep: None, ..input.made.values() };
     scripted(&values, input.lent_script())
+}
+
+/// A room about as large as these bytes need.
+fn of_bytes(maker: &mut RoomMaker, bytes: Result<Vec<u8>, Refusal>) -> usize {
+    maker.room(bytes.ok().map(|bytes| bytes.len()))
 }
 
 /// Rooms about as large as what is to be written.
@@ -106,6 +117,12 @@ pub fn rooms(input: &Input, maker: &mut RoomMaker) -> Rooms {
         texts: [plan_text(file), judge_text(file), show_text(file)].map(|text| room(put_text(&text, &mut []))),
         replay_values: room(replayed(to_replay(input), &mut [])),
         flows: maker.room(Some(policy::DECISION_BYTES * input.flows.len())),
+        script_texts: Maker::BOTH.map(|of| of_bytes(maker, console::script_text(input.lent_script(), of))),
+        file_texts: What::ALL.map(|what| Maker::BOTH.map(|of| of_bytes(maker, console::file_text(file, what, of)))),
+        text_scripts: std::array::from_fn(|index| {
+            let MadeText { text, kind, maker: of } = &input.texts[index];
+            of_bytes(maker, console::text_script(text, *kind, *of))
+        }),
     }
 }
 
@@ -169,10 +186,42 @@ fn over_values(input: &Input) -> Vec<Answer> {
     all
 }
 
+const OF_FILE: [&str; 3] = ["console text of file", "console text of plan 1", "console text of plan 2"];
+
+fn of_texts(input: &Input) -> Vec<Answer> {
+    let Rooms { script_texts, file_texts, text_scripts, .. } = input.rooms;
+    let mut all = Vec::new();
+    for (maker, room) in Maker::BOTH.into_iter().zip(script_texts) {
+        let text = console::script_text(input.lent_script(), maker);
+        all.push(lend("console text of script", room, |place| put_bytes(text, place)));
+    }
+    for ((what, rooms), entry) in What::ALL.into_iter().zip(file_texts).zip(OF_FILE) {
+        for (maker, room) in Maker::BOTH.into_iter().zip(rooms) {
+            let text = console::file_text(&input.file, what, maker);
+            all.push(lend(entry, room, |place| put_bytes(text, place)));
+        }
+    }
+    for (made, room) in input.texts.iter().zip(text_scripts) {
+        let field = console::text_script(&made.text, made.kind, made.maker);
+        all.push(lend("script of console text", room, |place| put_bytes(field, place)));
+    }
+    all
+}
+
+fn printed(program: Program, input: &[u8]) -> Vec<u8> {
+    match program {
+        Program::Planlist => plan_text(input).into_bytes(),
+        Program::Judgelist => judge_text(input).into_bytes(),
+        Program::Showlist => show_text(input).into_bytes(),
+        Program::Scripttext(maker, what) => console::printed(console::file_text(input, what, maker)),
+        Program::Textscript(maker, kind) => console::printed(console::text_script(input, kind, maker)),
+    }
+}
+
 pub fn ours(input: &Input) -> Answers {
     let mut entries = over_files(input);
     entries.extend(over_values(input));
-    let file = &input.file;
-    let (plan_text, judge_text, show_text) = (plan_text(file), judge_text(file), show_text(file));
-    Answers { plan_text, judge_text, show_text, entries: Some(entries) }
+    entries.extend(of_texts(input));
+    let print = |(program, input)| (program, printed(program, input));
+    Answers { printed: input.questions().into_iter().map(print).collect(), entries: Some(entries) }
 }

@@ -71,6 +71,11 @@ fn with(faults: &[Fault]) -> Given {
     given
 }
 
+/// Values with one fault each, one for each test.
+pub fn one_for_each_test() -> Vec<Given> {
+    FAULTS.iter().map(|&fault| with(&[fault])).collect()
+}
+
 /// Values with one fault each.
 pub fn single() -> Vec<Given> {
     FAULTS.iter().chain(&OTHERS).map(|&fault| with(&[fault])).collect()

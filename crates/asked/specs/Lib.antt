@@ -1,0 +1,2 @@
+-- What a word asks for.
+pub mod Words

@@ -1,0 +1,2 @@
+-- What the writers of console text need.
+pub mod Printing
