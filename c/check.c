@@ -899,6 +899,292 @@ static void check_longest(bool maker, const uint8_t *line, size_t size) {
     refused("read 4 before the next line's 55", pageoriole_text_script(text, whole + 8, 2, maker, NO_PLACE, ANSWER), PAGEORIOLE_LENGTH, 2049);
 }
 
+/* ---- saved iptables rules ---- */
+
+static uint8_t listing[ROOM];
+static size_t listing_size;
+
+#define LISTING listing, listing_size
+#define COUNT(table) (sizeof table / sizeof *table)
+#define HEAD TEXT("*filter\n:FORWARD DROP [0:0]\n")
+#define END TEXT("COMMIT\n")
+/* Five lines, which would be read otherwise in the part. */
+#define OTHER_TABLE TEXT("# saved\n*nat\n:FORWARD ACCEPT [0:0]\n-A FORWARD -z\nCOMMIT\n")
+
+static void add(const uint8_t *text, size_t size) {
+    memcpy(listing + listing_size, text, size);
+    listing_size += size;
+}
+
+/* A listing of this text alone. */
+static void listed(const uint8_t *text, size_t size) {
+    listing_size = 0;
+    add(text, size);
+}
+
+/* A listing with this line in the third place. */
+static void one_line(const uint8_t *line, size_t size) {
+    listed(HEAD);
+    add(line, size);
+    add(END);
+}
+
+/* The file of rules that both policies have, one after another. */
+static void listed_file(const uint8_t *records, size_t count, bool permits) {
+    static uint8_t numbers[2 * 512];
+    begin();
+    for (size_t k = 0; k < count; k++) {
+        field(1, records + 27 * k, 27);
+        numbers[2 * k] = (uint8_t)(k / 256);
+        numbers[2 * k + 1] = (uint8_t)(k % 256);
+    }
+    field(2, numbers, 2 * count);
+    field(3, numbers, 2 * count);
+    if (permits) field(6, BYTES(1));
+}
+
+/* The listing is brought in as these rules: with all room, with just enough, and not with a byte less. */
+static void comes_in(const char *what, bool permits, const uint8_t *records, size_t size) {
+    listed_file(records, size / 27, permits);
+    wrote(what, pageoriole_from_iptables(LISTING, PLACE, ANSWER), FILE_MADE);
+    wrote(what, pageoriole_from_iptables(LISTING, place, made_size, ANSWER), FILE_MADE);
+    refused(what, pageoriole_from_iptables(LISTING, place, made_size - 1, ANSWER), PAGEORIOLE_ROOM, made_size);
+}
+
+/* The listing is turned away, whatever the place. */
+static void stays_out(const char *what, uint32_t number, uint64_t at) {
+    refused(what, pageoriole_from_iptables(LISTING, NO_PLACE, ANSWER), number, at);
+    refused(what, pageoriole_from_iptables(LISTING, PLACE, ANSWER), number, at);
+}
+
+#define ALL_ADDRESSES 0, 0, 0, 0, 255, 255, 255, 255
+#define ALL_PORTS 0, 0, 255, 255
+#define BEHIND_PROTOCOL ALL_ADDRESSES, ALL_PORTS, ALL_ADDRESSES, ALL_PORTS
+#define DENY_ALL 0, 0, 255, BEHIND_PROTOCOL
+#define PERMIT_TCP 1, 6, 6, BEHIND_PROTOCOL
+
+/* Rule lines, and the rules that they are. */
+static const struct {
+    const uint8_t *line;
+    size_t size;
+    uint8_t rule[27];
+} rule_lines[] = {
+    {TEXT("-A FORWARD -j DROP\n"), {DENY_ALL}},
+    {TEXT("-A FORWARD -s 0.0.0.0/0 -d 9.9.9.9/0 -j DROP\n"), {DENY_ALL}},
+    {TEXT("-A FORWARD -p tcp -j ACCEPT\n"), {PERMIT_TCP}},
+    {TEXT("-A FORWARD -j ACCEPT -p 6\n"), {PERMIT_TCP}},
+    {TEXT("-A FORWARD -p tcp -m tcp --sport 0:65535 -j ACCEPT\n"), {PERMIT_TCP}},
+    {TEXT("-A FORWARD -p icmp -j DROP\n"), {0, 1, 1, BEHIND_PROTOCOL}},
+    {TEXT("-A FORWARD -p 1 -j DROP\n"), {0, 1, 1, BEHIND_PROTOCOL}},
+    {TEXT("-A FORWARD -p 255 -j DROP\n"), {0, 255, 255, BEHIND_PROTOCOL}},
+    {TEXT("-A FORWARD -s 10.1.2.3 -j DROP\n"), {0, 0, 255, 10, 1, 2, 3, 10, 1, 2, 3, ALL_PORTS, ALL_ADDRESSES, ALL_PORTS}},
+    {TEXT("-A FORWARD -s 10.1.2.3/32 -j DROP\n"), {0, 0, 255, 10, 1, 2, 3, 10, 1, 2, 3, ALL_PORTS, ALL_ADDRESSES, ALL_PORTS}},
+    {TEXT("-A FORWARD -s 10.1.2.3/24 -j DROP\n"), {0, 0, 255, 10, 1, 2, 0, 10, 1, 2, 255, ALL_PORTS, ALL_ADDRESSES, ALL_PORTS}},
+    {TEXT("-A FORWARD -d 10.1.2.3/31 -j DROP\n"), {0, 0, 255, ALL_ADDRESSES, ALL_PORTS, 10, 1, 2, 2, 10, 1, 2, 3, ALL_PORTS}},
+    {TEXT("-A FORWARD -d 255.0.0.255/1 -j DROP\n"), {0, 0, 255, ALL_ADDRESSES, ALL_PORTS, 128, 0, 0, 0, 255, 255, 255, 255, ALL_PORTS}},
+    {TEXT("-A FORWARD -p udp --sport 0 -j DROP\n"), {0, 17, 17, ALL_ADDRESSES, 0, 0, 0, 0, ALL_ADDRESSES, ALL_PORTS}},
+    {TEXT("-A FORWARD -p udp -m udp --dport 65535 -j DROP\n"), {0, 17, 17, ALL_ADDRESSES, ALL_PORTS, ALL_ADDRESSES, 255, 255, 255, 255}},
+    {TEXT("-A FORWARD -d 20.1.0.1/31 -s 10.0.0.9/24 -j ACCEPT -p tcp --dport 1027 -m tcp --sport 258:515\n"),
+     {1, 6, 6, 10, 0, 0, 0, 10, 0, 0, 255, 1, 2, 2, 3, 20, 1, 0, 0, 20, 1, 0, 1, 4, 3, 4, 3}}};
+
+static void check_rule_lines(void) {
+    for (size_t k = 0; k < COUNT(rule_lines); k++) {
+        const char *what = (const char *)rule_lines[k].line;
+        one_line(rule_lines[k].line, rule_lines[k].size);
+        comes_in(what, false, rule_lines[k].rule, 27);
+    }
+}
+
+/* Lines of the part that are turned away; each is written as the listing has it, without its line feed. */
+static const struct {
+    uint32_t number;
+    const uint8_t *line;
+    size_t size;
+} bad_lines[] = {
+    {57, TEXT("[1:60] -A FORWARD -j DROP")},
+    {57, TEXT("-I FORWARD -j DROP")},
+    {57, TEXT("-A")},
+    {57, TEXT("-A ")},
+    {57, TEXT("-A  FORWARD -j DROP")},
+    {57, TEXT(" -A FORWARD -j DROP")},
+    {57, TEXT("-A\tFORWARD -j DROP")},
+    {57, TEXT("-A \"FORWARD\" -j DROP")},
+    {57, TEXT("-A we\tb -j DROP")},
+    {57, TEXT("-A FORWARD")},
+    {57, TEXT("-A FORWARD ")},
+    {57, TEXT("-A FORWARD -s 1.2.3.4")},
+    {57, TEXT("-A FORWARD -j")},
+    {57, TEXT("-A FORWARD -j DROP ")},
+    {57, TEXT("-A FORWARD -j  DROP")},
+    {57, TEXT("-A FORWARD -j DROP\r")},
+    {57, TEXT("-A FORWARD -j DROP -s")},
+    {57, TEXT("-A FORWARD -j DROP -j DROP")},
+    {57, TEXT("-A FORWARD -j REJECT")},
+    {57, TEXT("-A FORWARD -j drop")},
+    {57, TEXT("-A FORWARD -g web")},
+    {57, TEXT("-A FORWARD -i eth0 -j DROP")},
+    {57, TEXT("-A FORWARD ! -s 1.2.3.4 -j DROP")},
+    {57, TEXT("-A FORWARD -s ! 1.2.3.4 -j DROP")},
+    {57, TEXT("-A FORWARD -s 1.2.3.4 -s 1.2.3.4 -j DROP")},
+    {57, TEXT("-A FORWARD -s 1.2.3 -j DROP")},
+    {57, TEXT("-A FORWARD -s 1.2.3.4.5 -j DROP")},
+    {57, TEXT("-A FORWARD -s 1.2.3.256 -j DROP")},
+    {57, TEXT("-A FORWARD -s 01.2.3.4 -j DROP")},
+    {57, TEXT("-A FORWARD -d 1.2.3.4/ -j DROP")},
+    {57, TEXT("-A FORWARD -d 1.2.3.4/33 -j DROP")},
+    {57, TEXT("-A FORWARD -d 1.2.3.4/08 -j DROP")},
+    {57, TEXT("-A FORWARD -d 1.2.3.4/4294967304 -j DROP")},
+    {57, TEXT("-A FORWARD -d 1.2.3.4/255.255.0.0 -j DROP")},
+    {57, TEXT("-A FORWARD -p 0 -j DROP")},
+    {57, TEXT("-A FORWARD -p 256 -j DROP")},
+    {57, TEXT("-A FORWARD -p 18446744073709551622 -j DROP")},
+    {57, TEXT("-A FORWARD -p TCP -j DROP")},
+    {57, TEXT("-A FORWARD -p gre -j DROP")},
+    {57, TEXT("-A FORWARD --dport 80 -j DROP")},
+    {57, TEXT("-A FORWARD --dport 80 -p tcp -j DROP")},
+    {57, TEXT("-A FORWARD -p 6 --dport 80 -j DROP")},
+    {57, TEXT("-A FORWARD -p icmp --sport 80 -j DROP")},
+    {57, TEXT("-A FORWARD -p tcp --dport 65536 -j DROP")},
+    {57, TEXT("-A FORWARD -p tcp --dport 1: -j DROP")},
+    {57, TEXT("-A FORWARD -p tcp --dport 1:2:3 -j DROP")},
+    {57, TEXT("-A FORWARD -p tcp -m udp -j DROP")},
+    {57, TEXT("-A FORWARD -m tcp -p tcp -j DROP")},
+    {57, TEXT("-A FORWARD -p 17 -m udp -j DROP")},
+    {57, TEXT("-A FORWARD -p tcp -m tcp -m tcp -j DROP")},
+    {57, TEXT("-A FORWARD -p tcp -m state --state NEW -j DROP")},
+    {57, TEXT("-A FORWARD -p tcp --sport 9:8 -j DROP -z z")},
+    {57, TEXT("-A FORWARD -p tcp --sport 9:8")},
+    {57, TEXT(":")},
+    {57, TEXT(": FORWARD DROP [0:0]")},
+    {57, TEXT(":\"FORWARD\" DROP [0:0]")},
+    {57, TEXT(":FORWARD\tDROP [0:0]")},
+    {57, TEXT(":FORWARD")},
+    {57, TEXT(":FORWARD DROP")},
+    {57, TEXT(":FORWARD - [0:0]")},
+    {57, TEXT(":FORWARD DROP [0:0] ")},
+    {57, TEXT(":FORWARD DROP [0:00]")},
+    {57, TEXT(":FORWARD DROP [0]")},
+    {57, TEXT(":FORWARD DROP [0:0")},
+    {57, TEXT("COMMIT ")},
+    {57, TEXT("COMMIT\r")},
+    {57, TEXT(" ")},
+    {57, TEXT("\0")},
+    {57, TEXT("x")},
+    {58, TEXT("-A FORWARD -p tcp --sport 9:8 -j DROP")},
+    {58, TEXT("-A FORWARD -p udp -m udp --dport 65535:0 -j DROP")},
+    {58, TEXT("-A FORWARD -j ACCEPT -p tcp --sport 1:2 --dport 256:255")}};
+
+/* Each of them in the third line, before lines that are turned away too, and behind another table, whose lines count. */
+static void check_bad_lines(void) {
+    for (size_t k = 0; k < COUNT(bad_lines); k++) {
+        const char *what = (const char *)bad_lines[k].line;
+        listed(HEAD);
+        add(bad_lines[k].line, bad_lines[k].size);
+        add(TEXT("\n-A FORWARD -p tcp --dport 2:1 -j DROP\nx\n"));
+        stays_out(what, bad_lines[k].number, 3);
+        listed(OTHER_TABLE);
+        add(HEAD);
+        add(bad_lines[k].line, bad_lines[k].size);
+        add(TEXT("\nCOMMIT\n"));
+        stays_out(what, bad_lines[k].number, 8);
+    }
+}
+
+/* What is passed over: in the part, and outside. */
+#define PASSED TEXT("\n# -A FORWARD -z\n#\n:web - [0:0]\n:INPUT ACCEPT [0:0]\n-A web ! -z\n-A INPUT -j DROP\n-A FORWARDS\n:FORWARDS\n")
+
+static void check_parts(void) {
+    listed(OTHER_TABLE);
+    add(TEXT("*filter\n"));
+    add(PASSED);
+    add(TEXT("-A FORWARD -p tcp -j ACCEPT\n:FORWARD ACCEPT [18446744073709551616:7]\n"));
+    add(PASSED);
+    add(TEXT("-A FORWARD -j DROP\n*mangle\n-A FORWARD -z\n*filter \n*filter\n-A FORWARD -p 1 -j DROP\nCOMMIT\n"));
+    add(OTHER_TABLE);
+    add(TEXT("no line"));
+    comes_in("a whole listing", true, BYTES(PERMIT_TCP, DENY_ALL, 0, 1, 1, BEHIND_PROTOCOL));
+    one_line(TEXT(""));
+    comes_in("no rule", false, NOTHING);
+    listed(TEXT("*filter\n:FORWARD ACCEPT [0:0]\nCOMMIT\n*filter"));
+    comes_in("no rule, default permit, and a part that doesn't begin", true, NOTHING);
+    one_line(TEXT("-A FORWARD -p tcp -j ACCEPT\n-A FORWARD -j DROP\n-A FORWARD -j ACCEPT -p 6\n-A FORWARD -d 1.1.1.1/0 -j DROP\n"));
+    comes_in("rules listed twice", false, BYTES(PERMIT_TCP, DENY_ALL));
+}
+
+static void check_ends(void) {
+    listed(TEXT(""));
+    stays_out("an empty listing", PAGEORIOLE_NOT_READ, 0);
+    refused("a listing at no address", pageoriole_from_iptables(NOTHING, NO_PLACE, ANSWER), PAGEORIOLE_NOT_READ, 0);
+    listed(OTHER_TABLE);
+    stays_out("no part", PAGEORIOLE_NOT_READ, 0);
+    add(TEXT("*filter\n:INPUT DROP [0:0]\n-A FORWARD -j DROP\nCOMMIT\n"));
+    stays_out("no default", PAGEORIOLE_NOT_READ, 0);
+    one_line(TEXT(":FORWARD DROP [0:0]\n"));
+    stays_out("two defaults", PAGEORIOLE_NOT_READ, 0);
+    one_line(TEXT(""));
+    add(HEAD);
+    stays_out("a second part that isn't ended", PAGEORIOLE_NOT_READ, 6);
+    add(END);
+    stays_out("a default in each of two parts", PAGEORIOLE_NOT_READ, 0);
+    listed(HEAD);
+    stays_out("a part that isn't ended", PAGEORIOLE_NOT_READ, 3);
+    add(TEXT("COMMIT"));
+    stays_out("an end without its line feed", PAGEORIOLE_NOT_READ, 3);
+    add(TEXT("\n"));
+    comes_in("the same with it", false, NOTHING);
+}
+
+static void add_number(size_t n) {
+    if (n >= 10) add_number(n / 10);
+    listing[listing_size++] = (uint8_t)('0' + n % 10);
+}
+
+/* So many different rules. */
+static void add_rules(size_t count) {
+    for (size_t k = 0; k < count; k++) {
+        add(TEXT("-A FORWARD -s 10.0."));
+        add_number(k / 256);
+        add(TEXT("."));
+        add_number(k % 256);
+        add(TEXT(" -j DROP\n"));
+    }
+}
+
+static void many_rules(size_t count) {
+    listed(HEAD);
+    add_rules(count);
+    add(END);
+}
+
+static void check_limits(void) {
+    static uint8_t records[512 * 27];
+    for (size_t k = 0; k < 512; k++) {
+        const uint8_t address[] = {10, 0, (uint8_t)(k / 256), (uint8_t)(k % 256)}, all[] = {DENY_ALL};
+        memcpy(records + 27 * k, all, 27);
+        memcpy(records + 27 * k + 3, address, 4);
+        memcpy(records + 27 * k + 7, address, 4);
+    }
+    listed(TEXT("*filter\n:FORWARD ACCEPT [0:0]\n"));
+    add_rules(512);
+    add_rules(512);
+    add(END);
+    comes_in("512 rules, each twice", true, records, sizeof records);
+    expect("longest file of a listing", "its size", made_size, PAGEORIOLE_FROM_IPTABLES);
+    told("a listing, no word of room", pageoriole_from_iptables(LISTING, PLACE, NULL, 0), PAGEORIOLE_DONE, NULL, 0);
+    many_rules(513);
+    stays_out("513 rules", PAGEORIOLE_LENGTH, 0);
+    many_rules(1024);
+    stays_out("1,024 rules", PAGEORIOLE_LENGTH, 0);
+    many_rules(1025);
+    stays_out("1,025 rules", PAGEORIOLE_TOO_MANY, 0);
+    add(HEAD);
+    stays_out("a part that isn't ended before 7", PAGEORIOLE_NOT_READ, 1031);
+    add(END);
+    stays_out("two defaults before 7", PAGEORIOLE_NOT_READ, 0);
+    add(TEXT("*filter\n-A FORWARD -p tcp --dport 1:0 -j DROP\n"));
+    stays_out("58 before two defaults", PAGEORIOLE_LOW_ABOVE, 1033);
+}
+
 /* ---- what the header adds to the functions ---- */
 
 static struct pageoriole_values three_values(void) {
@@ -1020,12 +1306,16 @@ static void check_names(void) {
     expect("values", "of 50", pageoriole_values_of(50), 1);
     expect("values", "of 55", pageoriole_values_of(55), 1);
     expect("values", "of 56", pageoriole_values_of(56), 1);
+    expect("values", "of 57", pageoriole_values_of(57), 1);
+    expect("values", "of 58", pageoriole_values_of(58), 1);
     expect("values", "of 30", pageoriole_values_of(30), 2);
     expect("values", "of 32", pageoriole_values_of(32), 0);
     expect("turned away", "by 13", pageoriole_turned_away(13), true);
     expect("turned away", "by 50", pageoriole_turned_away(50), true);
     expect("turned away", "by 55", pageoriole_turned_away(55), true);
     expect("turned away", "by 56", pageoriole_turned_away(56), true);
+    expect("turned away", "by 57", pageoriole_turned_away(57), true);
+    expect("turned away", "by 58", pageoriole_turned_away(58), true);
     expect("turned away", "by 0", pageoriole_turned_away(0), false);
     expect("turned away", "by 20", pageoriole_turned_away(20), false);
     expect("sentences", "of 0", pageoriole_says(0)[0], 'd');
@@ -1034,6 +1324,8 @@ static void check_names(void) {
     expect("makers", "B", PAGEORIOLE_MAKER_B, FOR_B);
     expect("line", "the number of one that isn't a command", PAGEORIOLE_NO_COMMAND, 55);
     expect("line", "the number of one with too large a number", PAGEORIOLE_BEYOND, 56);
+    expect("line", "the number of one that isn't read", PAGEORIOLE_NOT_READ, 57);
+    expect("line", "the number of one with a low above its high", PAGEORIOLE_LOW_ABOVE, 58);
     expect("sentences", "of 25 and 26 differing", pageoriole_says(25) != pageoriole_says(26), false);
 }
 
@@ -1067,6 +1359,11 @@ int main(void) {
     check_lines();
     check_longest(FOR_A, TEXT("mov 65535 65535\n"));
     check_longest(FOR_B, TEXT("move 65535 before 65535\n"));
+    check_rule_lines();
+    check_bad_lines();
+    check_parts();
+    check_ends();
+    check_limits();
     check_struct();
     check_struct_text();
     check_struct_default();

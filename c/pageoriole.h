@@ -4,9 +4,9 @@
  * memcpy and memset. It has no state and no heap: calls from several threads don't meet, as long as each lends places of its own.
  * docs/FORMAT.md says what files, rules, scripts and verdicts are; every number that a caller needs has a name below.
  *
- * What each function promises is stated, and proved, in crates/pageoriole/src/: files.rt, lists.rt, texts.rt. The proofs end at this
- * header: c/header_check compares it with the sources, name by name and number by number, and c/check.c calls every function. A caller has to
- * see to this:
+ * What each function promises is stated, and proved, in crates/pageoriole/src/: files.rt, lists.rt, texts.rt, listings.rt. The proofs end at
+ * this header: c/header_check compares it with the sources, name by name and number by number, and c/check.c calls every function. A caller has
+ * to see to this:
  *
  *   - A slice is two arguments, a pointer and a number of elements; that many elements can be read there. A slice of 0 elements may have
  *     any pointer, NULL too.
@@ -17,8 +17,8 @@
  *
  * Answers. Each function returns a number: PAGEORIOLE_DONE, a refusal, a fault or a verdict; pageoriole_says gives its sentence. The values
  * that belong to it are stored in the first words of `answer`, as many as have room; all other words keep what they held. A room of
- * PAGEORIOLE_ANSWER words is always enough. A refusal (1 to 13, 50, 55 and 56) has one value, its position: a byte of the file, 0 where field
- * values were lent, a line's number where text was, or, of 13, the bytes needed.
+ * PAGEORIOLE_ANSWER words is always enough. A refusal (1 to 13, 50, 55 to 58) has one value, its position: a byte of the file, 0 where field
+ * values were lent, a line's number, or 0, where text or a listing was, or, of 13, the bytes needed.
  *
  * Places. What is written fills the first bytes of `place`; the others keep theirs. When a call is turned away or breaks off, all do.
  *
@@ -41,12 +41,12 @@ extern "C" {
 #endif
 
 /* The version of this header and of the library that it belongs to. */
-#define PAGEORIOLE_VERSION "2.1.0"
+#define PAGEORIOLE_VERSION "2.2.0"
 
 /* ---- Numbers that are returned ---- */
 
 /* One row a number: its name, the number, how many values belong to it, its sentence.
- * A call is turned away; the value is the position, of 13 the bytes needed, of 55 and 56 the line, counted from 1. */
+ * A call is turned away; the value is the position, of 13 the bytes needed, of 55 to 58 the line, counted from 1, of 57 also 0. */
 #define PAGEORIOLE_REFUSALS(ROW)                                                                                                               \
     ROW(PAGEORIOLE_CUT, 1, 1, "the file is cut off inside a field")                                                                            \
     ROW(PAGEORIOLE_TAG, 2, 1, "a field stands where it can't stand")                                                                           \
@@ -63,7 +63,9 @@ extern "C" {
     ROW(PAGEORIOLE_ROOM, 13, 1, "the lent place is too small")                                                                                 \
     ROW(PAGEORIOLE_DEFAULT, 50, 1, "the default isn't 1, which means permit")                                                                  \
     ROW(PAGEORIOLE_NO_COMMAND, 55, 1, "a line isn't a command of the script's type and the maker")                                             \
-    ROW(PAGEORIOLE_BEYOND, 56, 1, "a number is above 65,535, or, behind `before`, above 65,536")
+    ROW(PAGEORIOLE_BEYOND, 56, 1, "a number is above 65,535, or, behind `before`, above 65,536")                                               \
+    ROW(PAGEORIOLE_NOT_READ, 57, 1, "a line of the listing isn't read, or, at 0, there isn't just one `:FORWARD` line")                        \
+    ROW(PAGEORIOLE_LOW_ABOVE, 58, 1, "a line of the listing has a low above its high")
 
 /* A command fails; the value is its step, counted from 1. */
 #define PAGEORIOLE_FAULTS(ROW)                                                                                                                 \
@@ -159,7 +161,7 @@ enum pageoriole_word {
     PAGEORIOLE_WRITTEN_BYTES = 0,  /* DONE of what writes a file, a list, decisions, a text or the script of a text: how many bytes */
     PAGEORIOLE_DECIDED_ACTION = 0, /* DONE of what decides one flow: its action */
     PAGEORIOLE_DECIDED_PLACE = 1,  /* and the place of the rule that decides, 0 for the default */
-    PAGEORIOLE_REFUSED_AT = 0,     /* 1 to 13, 50, 55 and 56: the position, the bytes needed, or the line */
+    PAGEORIOLE_REFUSED_AT = 0,     /* 1 to 13, 50, 55 to 58: the position, the bytes needed, or the line */
     PAGEORIOLE_FAULT_STEP = 0,     /* 20 to 23, and 30: the step */
     PAGEORIOLE_FAULT_PLACE = 1     /* 30: the place */
 };
@@ -179,6 +181,7 @@ enum pageoriole_limit {
     PAGEORIOLE_TEXT_A = 32768,   /* bytes: no console text of maker A is longer */
     PAGEORIOLE_TEXT_B = 49152,   /* bytes: no console text of maker B is longer */
     PAGEORIOLE_SCRIPT_FIELD = 10244, /* bytes: the longest script field, so the longest that pageoriole_text_script writes */
+    PAGEORIOLE_FROM_IPTABLES = 17418, /* bytes: the longest file that pageoriole_from_iptables writes */
     PAGEORIOLE_STACK = 32768,    /* bytes of stack, for every function but two */
     PAGEORIOLE_STACK_TEXT = 36864 /* bytes of stack, for pageoriole_plan_text and pageoriole_plan_two_text */
 };
@@ -434,6 +437,17 @@ uint32_t pageoriole_plan_two_text(const uint8_t *file, size_t file_size, bool ma
  * are both `mov i i`. */
 uint32_t pageoriole_text_script(const uint8_t *text, size_t text_size, uint8_t kind, bool maker_b, uint8_t *place, size_t place_size,
                                 uint64_t *answer, size_t answer_words);
+
+/* ---- Saved iptables rules: docs/FORMAT.md, "Saved iptables rules" ---- */
+
+/* Brings in a listing as `iptables-save` writes it, and writes its deployment file into `place`: the FORWARD rules of the `*filter` part are the
+ * catalogue, and both policies have all of them in this order; the `:FORWARD` policy is the default. A rule that is listed again stands at its
+ * first place only. There is no keep list and no script. DONE: the bytes written. Refusals: line by line, each with the line's number counted from
+ * 1 in the whole listing, 57, then 58, and 57 at the line that is missing if the listing ends inside the part; then at 0, 57 unless just one
+ * `:FORWARD` line stands in the part, 7 for more than 1,024 different rules, 4 for more than 512; 13 last. A line behind the one at fault isn't
+ * looked at. PAGEORIOLE_FROM_IPTABLES bytes are always enough. */
+uint32_t pageoriole_from_iptables(const uint8_t *listing, size_t listing_size, uint8_t *place, size_t place_size, uint64_t *answer,
+                                  size_t answer_words);
 
 /* ---- Field values as one struct ---- */
 

@@ -1,7 +1,8 @@
 /* How much stack each function touches: every call runs on a stack of its own, painted before it; the deepest byte that lost its paint is the
  * mark. The inputs are the largest that are accepted: 1,024 rules, policies of 512 rules that have none in common, or the same in reverse, or
- * equal with a keep list of 512, a default, scripts of 2,048 commands that run through, and their texts for both makers. Prints the mark in
- * bytes for each function, and fails where one is above what the header says. */
+ * equal with a keep list of 512, a default, scripts of 2,048 commands that run through, and their texts for both makers; and a listing of 512
+ * different rules with every option, each listed again and again. Prints the mark in bytes for each function, and fails where one is above what
+ * the header says. */
 #include <stdio.h>
 #include <string.h>
 
@@ -12,6 +13,8 @@ enum {
     PAINT = 0xa5,
     LIST = PAGEORIOLE_LISTED_WIDTH * PAGEORIOLE_LISTED,
     SCRIPT = PAGEORIOLE_TYPE + PAGEORIOLE_COMMAND * PAGEORIOLE_COMMANDS,
+    TIMES = 4,  /* how often each rule is listed */
+    LINE = 128, /* bytes: no line of the listing is longer */
     FLOWS = 1000 /* as many as are decided in one call here; the stack doesn't depend on it */
 };
 
@@ -19,6 +22,8 @@ static _Alignas(16) uint8_t stack[STACK];
 static uint8_t rules[PAGEORIOLE_RULES * PAGEORIOLE_RULE];
 static uint8_t flows[FLOWS * PAGEORIOLE_FLOW];
 static uint8_t place[PAGEORIOLE_SHOW_TEXT];
+static uint8_t listing[(TIMES * PAGEORIOLE_LISTED + 3) * LINE];
+static size_t listing_size;
 static uint64_t answer[PAGEORIOLE_ANSWER];
 static const uint8_t permit[PAGEORIOLE_ACTION_WIDTH] = {PAGEORIOLE_PERMIT};
 
@@ -67,6 +72,25 @@ static void make_texts(struct input *in) {
     in->text_a_size = answer[PAGEORIOLE_WRITTEN_BYTES];
     pageoriole_script_text(in->script, SCRIPT, PAGEORIOLE_MAKER_B, in->text_b, sizeof in->text_b, answer, PAGEORIOLE_ANSWER);
     in->text_b_size = answer[PAGEORIOLE_WRITTEN_BYTES];
+}
+
+static void add(const char *text) {
+    while (*text != 0) listing[listing_size++] = (uint8_t)*text++;
+}
+
+static void add_number(size_t n) {
+    if (n >= 10) add_number(n / 10);
+    listing[listing_size++] = (uint8_t)('0' + n % 10);
+}
+
+static void make_listing(void) {
+    add("*filter\n:FORWARD ACCEPT [0:0]\n");
+    for (size_t k = 0; k < TIMES * PAGEORIOLE_LISTED; k++) {
+        add("-A FORWARD -s 10.0.0.0/8 -d 192.168.0.0/16 -p tcp -m tcp --sport 1024:65535 --dport ");
+        add_number(k % PAGEORIOLE_LISTED);
+        add(" -j ACCEPT\n");
+    }
+    add("COMMIT\n");
 }
 
 /* Deletes the initial rules, appends the target's, and then its last one again and again: ordered, not full. */
@@ -120,6 +144,7 @@ static void make_inputs(void) {
     make_texts(&disjoint);
     make_texts(&reversed);
     make_texts(&same);
+    make_listing();
 }
 
 #define ANSWER answer, (size_t)PAGEORIOLE_ANSWER
@@ -172,6 +197,9 @@ static void text_script(void) {
     BOTH_MAKERS(pageoriole_text_script(TEXT_A, now->script[0], TO_A), pageoriole_text_script(TEXT_B, now->script[0], TO_B));
 }
 
+/* The same listing for every input. */
+static void from_iptables(void) { number = pageoriole_from_iptables(listing, listing_size, PLACE, ANSWER); }
+
 /* Calls a function with the stack pointer at the end of the painted stack. */
 static void call_there(void (*call)(void)) {
     __asm__ volatile("movq %%rsp, %%rbx\n\tmovq %0, %%rsp\n\tcall *%1\n\tmovq %%rbx, %%rsp"
@@ -217,7 +245,8 @@ int main(void) {
                  {"pageoriole_script_text_file", script_text_file, PAGEORIOLE_STACK},
                  {"pageoriole_plan_one_text", plan_one_text, PAGEORIOLE_STACK},
                  {"pageoriole_plan_two_text", plan_two_text, PAGEORIOLE_STACK_TEXT},
-                 {"pageoriole_text_script", text_script, PAGEORIOLE_STACK}};
+                 {"pageoriole_text_script", text_script, PAGEORIOLE_STACK},
+                 {"pageoriole_from_iptables", from_iptables, PAGEORIOLE_STACK}};
     const struct input *inputs[] = {&disjoint, &reversed, &same};
     bool accepted = true, within = true;
     make_rules();

@@ -1,6 +1,6 @@
 /* A tour of the library, by the header's names alone: makes three rules and two policies, decides flows, also by the default, plans by both
- * languages, judges both plans and a script that is wrong, reads one maker's console text and writes it for the other, and prints a sentence for
- * each answer. */
+ * languages, judges both plans and a script that is wrong, reads one maker's console text and writes it for the other, brings in saved iptables
+ * rules, and prints a sentence for each answer. */
 #include <stdio.h>
 
 #include "pageoriole.h"
@@ -80,13 +80,17 @@ static void decide(const char *what, const uint8_t *policy, size_t policy_size) 
     }
 }
 
+static void print_decision(void) {
+    printf("  %s at place %llu\n", answer[PAGEORIOLE_DECIDED_ACTION] == PAGEORIOLE_PERMIT ? "permit" : "deny",
+           (unsigned long long)answer[PAGEORIOLE_DECIDED_PLACE]);
+}
+
 /* A flow that no rule of the target matches: the default decides it, at place 0. An absent one denies. */
 static void decide_by_default(const char *what, bool has_default) {
     static const uint8_t permit[PAGEORIOLE_ACTION_WIDTH] = {PAGEORIOLE_PERMIT};
     say(what, pageoriole_decide(rules, sizeof rules, target, sizeof target, has_default, permit, sizeof permit, UDP, 0, 0, 0, WEB_PORT, answer,
                                 PAGEORIOLE_ANSWER));
-    printf("  %s at place %llu\n", answer[PAGEORIOLE_DECIDED_ACTION] == PAGEORIOLE_PERMIT ? "permit" : "deny",
-           (unsigned long long)answer[PAGEORIOLE_DECIDED_PLACE]);
+    print_decision();
 }
 
 typedef uint32_t planner(const struct pageoriole_values *, uint8_t *, size_t, uint64_t *, size_t);
@@ -129,6 +133,22 @@ static void translate(struct pageoriole_values *values) {
     say("read as maker A's", pageoriole_text_script(bytes, size, type, PAGEORIOLE_MAKER_A, field, sizeof field, answer, PAGEORIOLE_ANSWER));
 }
 
+/* A listing with one rule, which permits the web; a flow decided by the file made of it. Then a listing whose third line has an option that isn't
+ * read. */
+static void bring_in(void) {
+    static const char saved[] = "*filter\n:FORWARD DROP [0:0]\n-A FORWARD -p tcp -m tcp --dport 443 -j ACCEPT\nCOMMIT\n";
+    static const char other[] = "*filter\n:FORWARD DROP [0:0]\n-A FORWARD -i eth0 -j ACCEPT\nCOMMIT\n";
+    static uint8_t file[PAGEORIOLE_FROM_IPTABLES];
+    uint32_t number = pageoriole_from_iptables((const uint8_t *)saved, sizeof saved - 1, file, sizeof file, answer, PAGEORIOLE_ANSWER);
+    say("saved iptables rules, brought in", number);
+    if (number != PAGEORIOLE_DONE) return;
+    say("a flow by their file",
+        pageoriole_decide_file(file, answer[PAGEORIOLE_WRITTEN_BYTES], false, TCP, 0, 0, 0, WEB_PORT, answer, PAGEORIOLE_ANSWER));
+    print_decision();
+    say("rules with another option",
+        pageoriole_from_iptables((const uint8_t *)other, sizeof other - 1, file, sizeof file, answer, PAGEORIOLE_ANSWER));
+}
+
 int main(void) {
     struct pageoriole_values values = make_values();
     printf("pageoriole %s\n", PAGEORIOLE_VERSION);
@@ -141,6 +161,7 @@ int main(void) {
     plan_and_judge("plan by insert, delete and move", pageoriole_plan_two_values, &values);
     judge_wrong_script(&values);
     translate(&values);
+    bring_in();
     say("no room for a plan", pageoriole_plan_two_values(&values, plan, 0, answer, PAGEORIOLE_ANSWER));
     return 0;
 }

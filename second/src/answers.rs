@@ -1,5 +1,5 @@
-//! One input with all answers to it: what the programs print, and every entry,
-//! over files, over field values and over texts. `compare` holds two of these against each other.
+//! One input with all answers to it: what the programs print, and every entry, over files, over
+//! field values, over texts and over listings. `compare` holds two of these against each other.
 
 mod answer;
 mod input;
@@ -33,8 +33,9 @@ impl Input {
         let flows: Vec<Flow> = flows.collect();
         let flow_bytes = inputs::flow_bytes(&flows, seed, index);
         let texts = inputs::texts(seed, index, made.script.as_deref().unwrap_or_default());
+        let listings = inputs::listings(seed, index);
         let (file, rooms) = (inputs::make(seed, index), Rooms::default());
-        let mut input = Input { file, made, rooms, flows, flow_bytes, texts };
+        let mut input = Input { file, made, rooms, flows, flow_bytes, texts, listings };
         input.rooms = second::rooms(&input, &mut inputs::rooms(seed, index));
         input
     }

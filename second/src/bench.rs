@@ -7,6 +7,7 @@ use crate::commands::commands_of;
 use crate::console::{self, Maker};
 use crate::file::{self, put};
 use crate::format::numbers;
+use crate::iptables;
 use crate::judge::judge_values;
 use crate::library;
 use crate::plan::plan_values;
@@ -28,6 +29,9 @@ const PLAN_BYTES: usize = 5_124;
 /// The longest console text and the longest script field.
 const CONSOLE_BYTES: usize = 49_152;
 const FIELD_BYTES: usize = 10_244;
+
+/// The longest file of a listing.
+const FILE_BYTES: usize = 17_418;
 
 /// What the ratio of a line should stay under.
 const GOAL: f64 = 1.5;
@@ -183,6 +187,21 @@ impl Bench<'_> {
         );
     }
 
+    fn bringing_in(&self, rules: u32) {
+        let listing = made::listing(rules);
+        let (mut place, mut other_place, mut words) = ([0; FILE_BYTES], [0; FILE_BYTES], [0; 1]);
+        let second = |place: &mut [u8]| put(&iptables::from_iptables(black_box(&listing))?, place);
+        same(library::from_iptables(&listing, &mut place, &mut words), 0);
+        same(second(&mut other_place), Ok(words[0] as usize));
+        assert!(place == other_place, "the two answer differently");
+        self.line(
+            format!("bring in a listing of {rules} rules"),
+            REPETITIONS,
+            || library::from_iptables(black_box(&listing), &mut place, &mut words),
+            || second(&mut other_place),
+        );
+    }
+
     /// Prints all lines.
     pub fn run(&self) {
         println!("{:<60} {:>11} {:>11} {:>6}", "best time of one call", "library/µs", "second/µs", "ratio");
@@ -215,8 +234,11 @@ impl Bench<'_> {
         for maker in Maker::BOTH {
             self.reading_text(&wandering, maker);
         }
+        for rules in [512, 128, 32] {
+            self.bringing_in(rules);
+        }
         println!("read: a file with equal policies of half the rules, a keep list of all of them, and a script of two commands a rule;");
         println!("decide: one call over field values, with their tests; plan and judge: likewise, over a catalogue of twice the rules;");
-        println!("text: of the script that wanders over 512 rules, half of it moves.");
+        println!("text: of the script that wanders over 512 rules, half of it moves; listing: different rules, each with all options.");
     }
 }

@@ -1,8 +1,9 @@
 //! Brute force over small lists: all pairs of policies for the planners, all
 //! short scripts for the judge, each with every pattern of match and action; all
-//! moves of maker B, and all short texts.
+//! moves of maker B, and all short texts; all short rule lines, and made listings.
 
 mod held;
+mod listings;
 mod literal;
 mod moves;
 mod plans;
@@ -25,4 +26,5 @@ pub fn run(rules: u16) -> bool {
     report("plans", plans::test_all(rules))
         & report("scripts", scripts::test_all(SCRIPT_RULES, SCRIPT_COMMANDS))
         & report("console text", moves::test_all(rules))
+        & report("listings", listings::test_all())
 }

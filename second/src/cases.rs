@@ -1,4 +1,4 @@
-//! Cases for the programs `reader_cases`, `writer_cases`, `entry_cases` and `console_cases`:
+//! Cases for the programs `reader_cases`, `writer_cases`, `entry_cases`, `console_cases` and `iptables_cases`:
 //! in `data` files of cases, their names in `args`, and in `stdout` what the program must print.
 //!
 //! The first three read rows of cases. A case of the reader is a file; `writer` says what one of the
@@ -7,9 +7,9 @@
 //! there is a script, the room lent for output, and the flow, whose addresses have
 //! two numbers each; then its parts, themselves a row: the file; or the rules, both
 //! policies, the default, the keep list and the script; and last flows, as the
-//! entries take many at once. A file for `console_cases` is a case by itself, and the end of its name
+//! entries take many at once. A file for the last two is a case by itself, and the end of its name
 //! says what it is: `.bin` a deployment file, `.value` a script's value, `.A1.text` a text that is
-//! read for maker A as type 1, and so on.
+//! read for maker A as type 1, and so on; `.rules` a listing.
 
 mod base;
 mod calls;
@@ -19,7 +19,10 @@ mod expected;
 mod faults;
 mod given;
 mod groups;
+mod iptables;
+mod listed;
 mod made;
+mod not_read;
 mod reader;
 mod row;
 mod scripts;
@@ -40,21 +43,28 @@ fn groups_of(program: &str) -> Option<Vec<Group>> {
     }
 }
 
-/// The cases of `console_cases`: those listed in a folder, or else those that were listed before; and the made ones.
-fn console_files(data: &Path, listed: Option<&Path>) -> io::Result<Vec<CaseFile>> {
-    let mut files = match listed {
-        Some(folder) => console::listed(folder)?,
-        None if data.exists() => console::listed_before(data)?,
-        None => Vec::new(),
-    };
-    files.extend(console::made());
-    Ok(files)
+/// The made cases of a program to which listed ones belong as well.
+fn made_of(program: &str) -> Option<Vec<CaseFile>> {
+    match program {
+        "console_cases" => Some(console::made()),
+        "iptables_cases" => Some(iptables::made()),
+        _ => None,
+    }
+}
+
+/// The cases listed in a folder, or else those that were listed before.
+fn listed_files(data: &Path, folder: Option<&Path>) -> io::Result<Vec<CaseFile>> {
+    match folder {
+        Some(folder) => listed::listed(folder),
+        None if data.exists() => listed::listed_before(data),
+        None => Ok(Vec::new()),
+    }
 }
 
 /// How many cases a program has, and their files; None for a program that has none.
 fn files_of(program: &str, data: &Path, listed: Option<&Path>) -> io::Result<Option<(usize, Vec<CaseFile>)>> {
-    if program == "console_cases" {
-        let files = console_files(data, listed)?;
+    if let Some(made) = made_of(program) {
+        let files = [listed_files(data, listed)?, made].concat();
         return Ok(Some((files.len(), files)));
     }
     let count = |groups: &[Group]| groups.iter().map(|(_, cases)| cases.len()).sum();
@@ -152,14 +162,19 @@ mod tests {
         wanted.extend(["flows by initial bytes", "flows by target bytes"].map(String::from));
         expect_lines(&text, &wanted);
     }
-    #[test]
-    fn every_outcome_of_console_text_occurs_under_its_own_name() {
-        let files = console::made();
+
+    /// The text of made cases, of which no two have the same name and none has that of a listed one.
+    fn text_of_files(files: &[CaseFile]) -> String {
         let names: HashSet<&str> = files.iter().map(|file| file.name.as_str()).collect();
         assert_eq!(names.len(), files.len());
         assert!(names.iter().all(|name| !name.starts_with(|letter: char| letter.is_ascii_digit())));
         let bytes: Vec<u8> = files.iter().flat_map(|file| file.text.clone()).collect();
-        let text = String::from_utf8_lossy(&bytes);
+        String::from_utf8_lossy(&bytes).into_owned()
+    }
+
+    #[test]
+    fn every_outcome_of_console_text_occurs_under_its_own_name() {
+        let text = text_of_files(&console::made());
         let of_file = [1, 2, 3, 4, 5, 6, 7, 8, 9, 10, 11, 13, 50];
         let mut wanted = Vec::new();
         for maker in ["A", "B"] {
@@ -183,8 +198,21 @@ mod tests {
     }
 
     #[test]
-    fn no_file_is_longer_than_the_program_reads() {
-        let most = console::made().iter().map(|file| file.bytes.len()).max();
+    fn every_outcome_of_a_listing_occurs_under_its_own_name() {
+        let files = iptables::made();
+        let told = [(57, 4), (57, 0), (57, 1029), (58, 2), (58, 4), (13, 6), (13, 17418)];
+        let mut wanted = told.map(|(number, at)| format!("listing refused {number} at {at} kept")).to_vec();
+        wanted.extend([6, 10, 40, 17418].map(|size| format!("listing wrote {size} kept")));
+        expect_lines(&text_of_files(&files), &wanted);
+        let apart = |file: &&CaseFile| file.name.starts_with("rule-") || file.name.starts_with("line-");
+        for file in files.iter().filter(apart) {
+            assert_eq!(file.text, b"listing refused 57 at 4 kept\n", "{}", file.name);
+        }
+    }
+
+    #[test]
+    fn no_file_is_longer_than_the_programs_read() {
+        let most = console::made().iter().chain(&iptables::made()).map(|file| file.bytes.len()).max();
         assert!(most.is_some_and(|most| most <= 65536), "{most:?}");
     }
 }

@@ -9,18 +9,18 @@ use std::process::{Command, Stdio};
 // ---- The other side ----
 
 /// Programs that read standard input and print their answer.
-pub struct Programs([Vec<String>; 5]);
+pub struct Programs([Vec<String>; 6]);
 
 impl Programs {
-    /// The commands that start `planlist`, `judgelist`, `showlist`, `scripttext` and
-    /// `textscript`. They are split at blanks; no shell is used.
-    pub fn new(commands: [&str; 5]) -> Programs {
+    /// The commands that start `planlist`, `judgelist`, `showlist`, `scripttext`,
+    /// `textscript` and `fromiptables`. They are split at blanks; no shell is used.
+    pub fn new(commands: [&str; 6]) -> Programs {
         Programs(commands.map(|command| command.split_whitespace().map(str::to_string).collect()))
     }
 
     /// The command that starts a program with its arguments.
     fn command(&self, program: Program) -> Vec<String> {
-        let Programs([planlist, judgelist, showlist, scripttext, textscript]) = self;
+        let Programs([planlist, judgelist, showlist, scripttext, textscript, fromiptables]) = self;
         let with = |command: &[String], maker: &str, last: String| [command, &[maker.to_string(), last]].concat();
         match program {
             Program::Planlist => planlist.clone(),
@@ -28,6 +28,7 @@ impl Programs {
             Program::Showlist => showlist.clone(),
             Program::Scripttext(maker, what) => with(scripttext, maker.name(), what.name().to_string()),
             Program::Textscript(maker, kind) => with(textscript, maker.name(), kind.to_string()),
+            Program::Fromiptables => fromiptables.clone(),
         }
     }
 
@@ -85,6 +86,7 @@ fn printed_kind((program, bytes): &Printed) -> (&'static str, String) {
         Program::Showlist => ("showlist", "shown"),
         Program::Scripttext(..) => ("scripttext", "written"),
         Program::Textscript(..) => ("textscript", "read"),
+        Program::Fromiptables => ("fromiptables", "brought in"),
     };
     (name, number.unwrap_or_else(|| done.to_string()))
 }
@@ -100,7 +102,7 @@ fn answer_kind(answer: &Answer) -> String {
         (0, [1, ..]) if one_flow => "permit by a rule".to_string(),
         (0, _) if one_flow => "deny by a rule".to_string(),
         (0, _) => "done".to_string(),
-        (number @ (1..=13 | 50..=56), _) => format!("refused {number:>2}"),
+        (number @ (1..=13 | 50..=58), _) => format!("refused {number:>2}"),
         (number, _) if judge => format!("verdict {number:>2}"),
         (number, _) => format!("breaks off {number:>2}"),
     }
@@ -147,6 +149,9 @@ fn print_difference(index: u64, input: &Input, difference: &Difference) {
     println!("flows {:?}\nas bytes {}", input.flows, hex(&input.flow_bytes));
     for made in &input.texts {
         println!("text for {:?} type {}: {}", made.maker, made.kind, made.text.escape_ascii());
+    }
+    for listing in &input.listings {
+        println!("listing: {}", listing.escape_ascii());
     }
     println!("second {}\nother {}", difference.0, difference.1);
 }

@@ -5,7 +5,7 @@ use crate::commands::{commands_of, script_field, Command};
 use crate::file::{check_script, read, read_with_script};
 use crate::format::{numbers, Refusal, MOST_COMMANDS};
 use crate::plan::plan;
-use crate::text::refusal_line;
+use crate::text::number;
 use std::fmt::Write;
 
 /// A line that isn't a command of the script's type and the maker.
@@ -142,14 +142,9 @@ pub fn file_text(file: &[u8], what: What, maker: Maker) -> Result<Vec<u8>, Refus
 
 // ---- Text as a script ----
 
-/// The number that a word of digits says; one with more digits than can be counted says a great one.
-fn number(word: &[u8]) -> Result<u64, u8> {
-    let digits = !word.is_empty() && word.iter().all(u8::is_ascii_digit);
-    if !digits || (word.len() > 1 && word[0] == b'0') {
-        return Err(NO_COMMAND);
-    }
-    let with = |number: u64, digit: &u8| number.saturating_mul(10).saturating_add(u64::from(digit - b'0'));
-    Ok(word.iter().fold(0, with))
+/// The number that a word of a command says.
+fn said(word: &[u8]) -> Result<u64, u8> {
+    number(word).ok_or(NO_COMMAND)
 }
 
 fn within(number: u64, most: u64) -> Result<u64, u8> {
@@ -161,12 +156,12 @@ fn within(number: u64, most: u64) -> Result<u64, u8> {
 }
 
 fn one(word: &[u8]) -> Result<u16, u8> {
-    Ok(within(number(word)?, MOST)? as u16)
+    Ok(within(said(word)?, MOST)? as u16)
 }
 
 /// Both must be numbers before either is held against the greatest.
 fn two(first: &[u8], second: &[u8], most_of_second: u64) -> Result<(u64, u64), u8> {
-    let (first, second) = (number(first)?, number(second)?);
+    let (first, second) = (said(first)?, said(second)?);
     Ok((within(first, MOST)?, within(second, most_of_second)?))
 }
 
@@ -217,13 +212,6 @@ pub fn text_script(text: &[u8], kind: u8, maker: Maker) -> Result<Vec<u8>, Refus
     Ok(script_field(kind, &commands_in(text, kind, maker)?))
 }
 
-// ---- What the programs print ----
-
-/// What was written, or the refusal's line.
-pub fn printed(answer: Result<Vec<u8>, Refusal>) -> Vec<u8> {
-    answer.unwrap_or_else(|refusal| refusal_line(refusal).into_bytes())
-}
-
 #[cfg(test)]
 mod tests {
     use super::*;
@@ -231,6 +219,7 @@ mod tests {
     use crate::file::{file_bytes, Contents};
     use crate::format::list_value;
     use crate::rule::plain_rule;
+    use crate::text::printed;
     use Command::*;
 
     fn written(kind: u8, commands: &[Command], maker: Maker) -> String {

@@ -1,10 +1,13 @@
-//! A deterministic maker of inputs: valid, damaged and adversarial files and texts,
-//! and flows. The same seed and index always give the same bytes.
+//! A deterministic maker of inputs: valid, damaged and adversarial files, texts and
+//! listings, and flows. The same seed and index always give the same bytes.
 
 mod damage;
 mod draft;
 mod limits;
+mod lines;
+mod listings;
 mod random;
+mod rule_lines;
 mod rules;
 mod scripts;
 mod texts;
@@ -25,9 +28,11 @@ const VALUES: u64 = 0x7661_6c75;
 const ROOMS: u64 = 0x726f_6f6d;
 const CUTS: u64 = 0x6375_7473;
 const TEXTS: u64 = 0x7465_7874;
+const LISTINGS: u64 = 0x6c69_7374;
 
-/// How many texts an input has.
+/// How many texts an input has, and how many listings.
 pub const TEXTS_OF_INPUT: usize = 4;
+pub const LISTINGS_OF_INPUT: usize = 4;
 
 /// The input with this index.
 pub fn make(seed: u64, index: u64) -> Vec<u8> {
@@ -105,6 +110,12 @@ pub fn texts(seed: u64, index: u64, script: &[u8]) -> [MadeText; TEXTS_OF_INPUT]
     made
 }
 
+/// The listings with this index.
+pub fn listings(seed: u64, index: u64) -> [Vec<u8>; LISTINGS_OF_INPUT] {
+    let random = &mut Random::new(seed ^ LISTINGS, index);
+    [(); LISTINGS_OF_INPUT].map(|()| listings::any(random))
+}
+
 /// A maker of rooms for what is written.
 pub struct RoomMaker(Random);
 
@@ -165,6 +176,8 @@ pub fn flow_near(rules: &[&[u8]], seed: u64, index: u64) -> Flow {
 mod tests {
     use super::*;
     use crate::console::text_script;
+    use crate::file::read;
+    use crate::iptables::from_iptables;
     use crate::text::{judge_text, plan_text};
     use std::collections::HashMap;
 
@@ -173,6 +186,7 @@ mod tests {
         for index in 0..200 {
             assert_eq!(make(5, index), make(5, index));
             assert_eq!(flow(5, index), flow(5, index));
+            assert_eq!(listings(5, index), listings(5, index));
         }
     }
 
@@ -209,6 +223,29 @@ mod tests {
             assert!(count >= 50, "{outcome} occurs {count} times");
         }
         assert!(longest >= 20 && after_the_most >= 20, "{longest} and {after_the_most}");
+    }
+
+    #[test]
+    fn every_outcome_of_a_listing_occurs_often() {
+        let mut counts: HashMap<(u8, bool), usize> = HashMap::new();
+        let (mut shorter, mut long) = (0, 0);
+        for listing in (0..4000).flat_map(|index| listings(1, index)) {
+            let outcome = match from_iptables(&listing) {
+                Ok(file) => {
+                    let lines = listing.split(|&byte| byte == b'\n').filter(|line| line.starts_with(b"-A FORWARD "));
+                    shorter += usize::from(read(&file).unwrap().rules.len() < lines.count());
+                    (0, true)
+                }
+                Err(refusal) => (refusal.number, refusal.position == 0),
+            };
+            long += usize::from(listing.len() > 65536);
+            *counts.entry(outcome).or_default() += 1;
+        }
+        for outcome in [(0, true), (4, true), (7, true), (57, true), (57, false), (58, false)] {
+            let count = counts.get(&outcome).copied().unwrap_or(0);
+            assert!(count >= 40, "{outcome:?} occurs {count} times");
+        }
+        assert!(shorter >= 1000 && long >= 40, "{shorter} and {long}");
     }
 
     #[test]

@@ -12,6 +12,7 @@ pub mod console;
 pub mod file;
 pub mod format;
 pub mod inputs;
+pub mod iptables;
 pub mod judge;
 #[cfg(feature = "library")]
 pub mod library;

@@ -96,6 +96,9 @@ extern "C" {
         text: Bytes, text_size: usize, kind: u8, maker_b: bool, place: Place, room: usize, answer: Words,
         words: usize,
     ) -> u32;
+    fn pageoriole_from_iptables(
+        listing: Bytes, size: usize, place: Place, room: usize, answer: Words, words: usize,
+    ) -> u32;
 }
 
 // Safety, for every call below: a slice's pointer and length belong together,
@@ -295,4 +298,11 @@ pub fn text_script(text: &[u8], kind: u8, maker: Maker, place: &mut [u8], answer
             answer.len(),
         )
     }
+}
+
+// ---- Saved iptables rules ----
+
+/// The deployment file of a listing.
+pub fn from_iptables(listing: &[u8], place: &mut [u8], answer: &mut [u64]) -> u32 {
+    writing(pageoriole_from_iptables, listing, place, answer)
 }

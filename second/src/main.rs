@@ -1,8 +1,8 @@
-//! The command line: `second planlist`, `judgelist`, `showlist`, `scripttext`,
-//! `textscript`, `vectors`, `brute`, `inputs`, `compare`, `cases` and `bench`; see README.md.
+//! The command line: `second planlist`, `judgelist`, `showlist`, `scripttext`, `textscript`,
+//! `fromiptables`, `vectors`, `brute`, `inputs`, `compare`, `cases` and `bench`; see README.md.
 
 use second::console::{self, Maker, What};
-use second::{brute, cases, compare, inputs, show, text, vectors};
+use second::{brute, cases, compare, inputs, iptables, show, text, vectors};
 use std::error::Error;
 use std::io::{self, Read, Write};
 use std::path::Path;
@@ -16,11 +16,12 @@ usage: second planlist < FILE
        second showlist < FILE
        second scripttext MAKER WHAT < FILE
        second textscript MAKER TYPE < TEXT
+       second fromiptables < LISTING
        second vectors FOLDER
        second brute [--rules N]
        second inputs --seed N --count K --dir FOLDER
        second compare --seed N --count K [--library | --planlist COMMAND --judgelist COMMAND --showlist COMMAND
-                      --scripttext COMMAND --textscript COMMAND]
+                      --scripttext COMMAND --textscript COMMAND --fromiptables COMMAND]
        second cases FOLDER [LISTED]
        second bench [--only TEXT]
 ";
@@ -42,13 +43,15 @@ impl Error for Misused {}
 struct Takes(&'static [&'static str], usize, &'static [&'static str], &'static [&'static str]);
 
 /// The programs that a comparison can drive, each an option with the command that starts it.
-const PROGRAMS: [&str; 5] = ["--planlist", "--judgelist", "--showlist", "--scripttext", "--textscript"];
+const PROGRAMS: [&str; 6] =
+    ["--planlist", "--judgelist", "--showlist", "--scripttext", "--textscript", "--fromiptables"];
 
-const COMPARED: [&str; 7] = ["--seed", "--count", PROGRAMS[0], PROGRAMS[1], PROGRAMS[2], PROGRAMS[3], PROGRAMS[4]];
+const COMPARED: [&str; 8] =
+    ["--seed", "--count", PROGRAMS[0], PROGRAMS[1], PROGRAMS[2], PROGRAMS[3], PROGRAMS[4], PROGRAMS[5]];
 
 fn taken(name: &str) -> Option<Takes> {
     Some(match name {
-        "planlist" | "judgelist" | "showlist" => Takes(&[], 0, &[], &[]),
+        "planlist" | "judgelist" | "showlist" | "fromiptables" => Takes(&[], 0, &[], &[]),
         "scripttext" => Takes(&["a maker", "what is written"], 0, &[], &[]),
         "textscript" => Takes(&["a maker", "a type"], 0, &[], &[]),
         "vectors" => Takes(&["a folder"], 0, &[], &[]),
@@ -130,13 +133,13 @@ fn maker_named(word: &str) -> Result<Maker, Misused> {
 fn print_script_text(words: &[String]) -> Outcome {
     let maker = maker_named(&words[0])?;
     let what = What::named(&words[1]).ok_or_else(|| Misused(format!("{} isn't 1, 2 or own", words[1])))?;
-    print_answer(|file| console::printed(console::file_text(file, what, maker)))
+    print_answer(|file| text::printed(console::file_text(file, what, maker)))
 }
 
 fn print_text_script(words: &[String]) -> Outcome {
     let maker = maker_named(&words[0])?;
     let kind = console::type_named(&words[1]).ok_or_else(|| Misused(format!("{} isn't 1 or 2", words[1])))?;
-    print_answer(|text| console::printed(console::text_script(text, kind, maker)))
+    print_answer(|lines| text::printed(console::text_script(lines, kind, maker)))
 }
 
 fn write_inputs(arguments: &[String]) -> Outcome {
@@ -144,7 +147,11 @@ fn write_inputs(arguments: &[String]) -> Outcome {
     let seed = number(arguments, "--seed", 1)?;
     std::fs::create_dir_all(folder)?;
     for index in 0..number(arguments, "--count", 100)? {
-        std::fs::write(folder.join(format!("{seed}-{index:06}.bin")), inputs::make(seed, index))?;
+        let write = |end: &str, bytes: &[u8]| std::fs::write(folder.join(format!("{seed}-{index:06}{end}")), bytes);
+        write(".bin", &inputs::make(seed, index))?;
+        for (number, listing) in inputs::listings(seed, index).iter().enumerate() {
+            write(&format!("-{number}.rules"), listing)?;
+        }
     }
     Ok(true)
 }
@@ -202,6 +209,7 @@ fn run(arguments: &[String]) -> Outcome {
         "showlist" => print_text(show::show_text),
         "scripttext" => print_script_text(rest),
         "textscript" => print_text_script(rest),
+        "fromiptables" => print_answer(iptables::listing_text),
         "vectors" => Ok(vectors::run(Path::new(&rest[0]))?),
         "brute" => Ok(brute::run(number(rest, "--rules", 4)? as u16)),
         "inputs" => write_inputs(rest),

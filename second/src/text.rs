@@ -1,4 +1,4 @@
-//! The texts that `planlist` and `judgelist` print.
+//! The texts that `planlist` and `judgelist` print, and what all texts share.
 
 use crate::commands::{commands_of, Command};
 use crate::file::{read, read_with_script};
@@ -7,9 +7,28 @@ use crate::judge::{judge, Verdict};
 use crate::plan::{plan, Plan};
 use std::fmt::Write;
 
+// ---- What all texts share ----
+
 pub fn refusal_line(refusal: Refusal) -> String {
     format!("refused {} at {}\n", refusal.number, refusal.position)
 }
+
+/// What was written, or the refusal's line.
+pub fn printed(answer: Result<Vec<u8>, Refusal>) -> Vec<u8> {
+    answer.unwrap_or_else(|refusal| refusal_line(refusal).into_bytes())
+}
+
+/// The number that a word of digits without a leading zero says; one with more digits than can be counted says a great one.
+pub fn number(word: &[u8]) -> Option<u64> {
+    let digits = !word.is_empty() && word.iter().all(u8::is_ascii_digit);
+    if !digits || (word.len() > 1 && word[0] == b'0') {
+        return None;
+    }
+    let with = |number: u64, digit: &u8| number.saturating_mul(10).saturating_add(u64::from(digit - b'0'));
+    Some(word.iter().fold(0, with))
+}
+
+// ---- Plans and verdicts ----
 
 pub fn command_line(step: usize, command: Command) -> String {
     match command {

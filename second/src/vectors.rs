@@ -2,10 +2,12 @@
 //! NAME.plan and NAME.judge are the exact texts of the two programs for it;
 //! NAME.value is a script's value, NAME.A.text and NAME.B.text are its texts;
 //! NAME.A1.text is a text to be read, NAME.A1.out the script field or the
-//! refusal's line, and likewise for the other maker and type.
+//! refusal's line, and likewise for the other maker and type; NAME.rules is a
+//! listing, NAME.out the deployment file or the refusal's line.
 
-use crate::console::{printed, script_text, text_script, type_named, Maker};
-use crate::text::{judge_text, plan_text};
+use crate::console::{script_text, text_script, type_named, Maker};
+use crate::iptables::listing_text;
+use crate::text::{judge_text, plan_text, printed};
 use std::fs;
 use std::io;
 use std::path::{Path, PathBuf};
@@ -16,6 +18,7 @@ pub enum Vector {
     File,
     Script,
     Text(Maker, u8),
+    Listing,
 }
 
 /// The vector with this name; a text that belongs to a script is none.
@@ -25,6 +28,7 @@ pub fn vector_named(path: &Path) -> Option<Vector> {
     match end {
         "bin" => Some(Vector::File),
         "value" => Some(Vector::Script),
+        "rules" => Some(Vector::Listing),
         "text" => {
             let (_, told) = before.rsplit_once('.')?;
             let maker = Maker::BOTH.into_iter().find(|maker| told.starts_with(maker.name()))?;
@@ -56,6 +60,7 @@ fn answers(vector: Vector, input: &[u8]) -> Vec<(&'static str, Vec<u8>)> {
             vec![text("A.text", Maker::A), text("B.text", Maker::B)]
         }
         Vector::Text(maker, kind) => vec![("out", printed(text_script(input, kind, maker)))],
+        Vector::Listing => vec![("out", listing_text(input))],
     }
 }
 
@@ -92,6 +97,7 @@ mod tests {
         assert_eq!(named("0-a.bin"), Some(Vector::File));
         assert_eq!(named("0-a.value"), Some(Vector::Script));
         assert_eq!(named("0-a.B2.text"), Some(Vector::Text(Maker::B, 2)));
+        assert_eq!(named("0-a.rules"), Some(Vector::Listing));
         for other in ["0-a.A.text", "0-a.A3.text", "0-a.out", "0-a.plan", "a", "0-a.text", "0-a.C1.text"] {
             assert_eq!(named(other), None, "{other}");
         }

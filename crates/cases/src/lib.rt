@@ -6,6 +6,7 @@ ghost use Prim.Native.Nat.{_≤_, _-_};
 ghost use lib.ListN.{length};
 ghost use Rattle.io.specs.Counts.{Counts};
 use deployment::Refusal;
+use deployment::Written;
 use format::two;
 use libc::STDOUT_FILENO;
 use numbers::why_number;
@@ -142,6 +143,26 @@ fn print_span(word: &[u8], there: bool, span: Span) {
     } else {
         io::write_all(STDOUT_FILENO, b" none");
     }
+}
+
+// What was answered and left in a room, whose first bytes were lent: the refusal, or the bytes that were written, as they are; and whether the others
+// are as they were.
+pub fn print_answer(answer: Written, room: &[u8], byte: u8) {
+    match answer {
+        Written::Turned(refusal) => {
+            io::write_all(STDOUT_FILENO, b" ");
+            print_refusal(refusal);
+            print_kept(room, byte);
+        }
+        Written::Bytes(n) => {
+            let size = room.len();
+            print_number(b" wrote ", n);
+            print_kept(value(room, Span { start: n, size }), byte);
+            io::write_all(STDOUT_FILENO, b"\n");
+            io::write_all(STDOUT_FILENO, value(room, Span { start: 0, size: n }));
+        }
+    }
+    io::write_all(STDOUT_FILENO, b"\n");
 }
 
 // What is read of a file: the refusal, or where its values stand.

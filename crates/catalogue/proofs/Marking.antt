@@ -34,6 +34,13 @@ mixed-further n bytes k h = rw (drop-cons bytes k 0 h, add-one k)
 abbrev pub first : List ℕ → ℕ
 first rule = cond (eqb (getD rule 0 0) 1) 1 0
 
+pub first-of-none : (rule : List ℕ) → length rule ≡ 0 → 0 ≡ first rule
+first-of-none [] e = refl
+first-of-none (b ∷ rule) e = absurd (omega arith)
+
+pub first-small : (rule : List ℕ) → first rule ≤ 1
+first-small rule = byTest (eqb (getD rule 0 0) 1) (λ t. rw t (omega arith)) (λ f. rw f (omega arith))
+
 pub mark-is : (n : ℕ) (rule : List ℕ) (k : ℕ) → mixedFrom (first rule) (drop 1 rule) ≡ mixedFrom n (drop k rule) → length rule ≤ k
     → n / 2048 ≡ mark rule
 unfolding mark mixedFrom

@@ -2,9 +2,10 @@
 // differs from all before it, and only the others are compared.
 
 ghost use mathlib.Core.Path.{_≡_};
-ghost use mathlib.Core.Bool.{_&&_};
+ghost use mathlib.Core.Bool.{cond, _&&_};
 ghost use Prim.Native.Nat.{_+_, _*_, _%_, _≤_, _<_, min};
-ghost use lib.ListN.{length, take};
+ghost use lib.ListN.{length, take, getD};
+ghost use lib.Dec.{eqb};
 ghost use Rattle.policy.specs.Lists.{same};
 ghost use Rattle.deployment.specs.Values.{ruleOf, ruleFits, sameRule, known, rangeAt, rising};
 ghost use Rattle.deployment.specs.Catalogue.{recordCount, catalogueOf};
@@ -64,7 +65,7 @@ fn rule_fits(rule: &[u8]) -> bool
 }
 
 // Whether two parts have the same bytes; left at the first that differs.
-fn same_bytes(a: &[u8], b: &[u8]) -> bool
+pub fn same_bytes(a: &[u8], b: &[u8]) -> bool
     ensures { λ r. ⌜ r ≡ same (now (a .entry)) (now (b .entry)) ⌝ }
 {
     if a.len() != b.len() {
@@ -122,14 +123,26 @@ fn known_if(rules: &[u8], skip: u8, count: usize, rule: &[u8], suspect: bool) ->
     suspect && is_known(rules, skip, count, rule)
 }
 
-// The mark of a rule, made of its action and the bytes behind it: for speed alone.
-fn mark_of(rule: &[u8]) -> usize
-    requires { ⌜ length (now rule) ≡ 27 ⌝ }
+// What the action gives to a mark; where there are no bytes, 0.
+fn action_mark(rule: &[u8]) -> usize
+    ensures { λ r. ⌜ r ≡ cond (eqb (getD (now (rule .entry)) 0 0) 1) 1 0 ⌝ }
+{
+    if rule.len() == 0 {
+        return 0;
+    }
+    if rule[0] == 1 {
+        return 1;
+    }
+    0
+}
+
+// The mark of a rule, made of its action and the bytes behind it: for speed alone. Bytes that aren't a rule have a mark too.
+pub fn mark_of(rule: &[u8]) -> usize
     ensures { λ r. ⌜ (r ≡ mark (now (rule .entry))) × (r < 2097152) ⌝ }
 {
-    let mut mixed = if rule[0] == 1 { 1usize } else { 0 };
+    let mut mixed = action_mark(rule);
     let mut k = 1;
-    while k < RULE_BYTES {
+    while k < rule.len() {
         mixed = (mixed + rule[k] as usize) * FACTOR % MIXED;
         k += 1;
     }

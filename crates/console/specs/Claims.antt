@@ -12,8 +12,8 @@ use Rattle.console.specs.Makers.{numberBefore, placeFor, said, heard, ag
 use Rattle.console.specs.Console.{stepBefore, consoleStep, consoleLists}
 use Rattle.console.specs.declared.Maker.{Maker}
 
--- "`mov i j` becomes b = j + 1 when j is above i, and b = j otherwise": on every list B's move by that number is document 01's move, and it
--- fails where that one fails.
+-- "`mov i j` becomes b = j + 1 when j is above i, and b = j otherwise": on every list that names no rule twice, B's move by that number is document
+-- 01's move, and it fails where that one fails.
 abbrev pub MovesAlike : Type 0
 MovesAlike = (size : ℕ) (l : List ℕ) (i j : ℕ) → Distinct l → stepBefore size l (Mov i (numberBefore i j)) ≡ step size l (Mov i j)
 

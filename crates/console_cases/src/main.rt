@@ -4,9 +4,7 @@
 // bytes are as they were.
 
 use cases::filled;
-use cases::print_kept;
-use cases::print_number;
-use cases::print_refusal;
+use cases::print_answer;
 use cases::read_argument;
 use console::Maker;
 use console_reader::text_script;
@@ -14,8 +12,6 @@ use console_writer::files;
 use console_writer::script_text;
 use deployment::Written;
 use libc::STDOUT_FILENO;
-use reader::Span;
-use reader::file::value;
 
 // What a lent place holds before a call.
 const LENT: u8 = 165;
@@ -84,30 +80,12 @@ fn print_name(call: Call) {
     }
 }
 
-fn print_answer(answer: Written, room: &[u8]) {
-    match answer {
-        Written::Turned(refusal) => {
-            print(b" ");
-            print_refusal(refusal);
-            print_kept(room, LENT);
-        }
-        Written::Bytes(n) => {
-            let size = room.len();
-            print_number(b" wrote ", n);
-            print_kept(value(room, Span { start: n, size }), LENT);
-            print(b"\n");
-            print(value(room, Span { start: 0, size: n }));
-        }
-    }
-    print(b"\n");
-}
-
 // A call that is lent the first bytes of a room; its answer.
 fn print_lent(call: Call, input: &[u8], size: usize) -> Written {
     let mut room = filled(LENT);
     let answer = called_with(call, input, &mut room, size);
     print_name(call);
-    print_answer(answer, &room);
+    print_answer(answer, &room, LENT);
     answer
 }
 

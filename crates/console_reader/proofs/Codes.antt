@@ -12,7 +12,8 @@ use Rattle.policy.specs.Command.{Coded, codesOf}
 use Rattle.policy.proofs.Tests.{byTest, never, or-neither}
 use Rattle.console.specs.declared.Maker.{Maker}
 use Rattle.deployment.specs.Checked.{Checked, good, bad}
-use Rattle.console_text.specs.Reading.{Got, lineRead, anyRead}
+use Rattle.numerals.specs.Numerals.{Got}
+use Rattle.console_text.specs.Reading.{lineRead, anyRead}
 use Rattle.console_text.proofs.Line.{by-type}
 use Rattle.console_reader.specs.Found.{LineFound}
 use Rattle.console_reader.specs.declared.line.Line.the-variants.{Is, Not}

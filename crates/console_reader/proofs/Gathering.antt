@@ -22,11 +22,13 @@ use Rattle.deployment.specs.declared.Why.the-variants.{Length, Beyond}
 use Rattle.lines.specs.Text.{text}
 use Rattle.plans.specs.Sending.{records}
 use Rattle.plans.proofs.Sending.{one-record, records-more}
+use Rattle.numerals.specs.Numerals.{Got}
+use Rattle.numerals.specs.Found.{Left}
 use Rattle.console_text.specs.Text.{lineOf}
-use Rattle.console_text.specs.Reading.{Got, commandRead, Understood, understood, turned, behindIt, readFrom}
+use Rattle.console_text.specs.Reading.{commandRead, Understood, understood, turned, behindIt, readFrom}
 use Rattle.console_text.proofs.FirstLine.{byChecked, good-bad, front-read, front-beyond, front-none, by-first}
 use Rattle.console_text.proofs.Whole.{line-turned, line-over, line-passes, behindAll, all-understood, all-turned, from-nothing}
-use Rattle.console_reader.specs.Found.{Left, NextFound, AllFound}
+use Rattle.console_reader.specs.Found.{NextFound, AllFound}
 use Rattle.console_reader.specs.declared.Next.the-variants as next
 use Rattle.console_reader.specs.declared.Counted.the-variants as counted
 

@@ -1,20 +1,24 @@
 -- A line from a position on: its name, its numbers and the line feed, one behind the other; what isn't there makes it no command. Assumes nothing.
 use Prim.Native.Nat.{ℕ, _+_, _≤_}
-use mathlib.Core.Path.{_≡_, refl}
+use mathlib.Core.Path.{_≡_, refl, _∙_}
 use mathlib.Core.Bool.{true, false}
 use mathlib.Core.List.{List, [], _∷_}
 use lib.ListN.{length, drop, take}
 use lib.Seq.{length-take-le}
 use Rattle.console.specs.declared.Maker.{Maker}
+use Rattle.deployment.specs.Checked.{good}
 use Rattle.lines.specs.Text.{text, wordsOf}
 use Rattle.lines.specs.Printing.{Holds, wordsIn}
 use Rattle.lines.specs.declared.phrases.Phrase.{Phrase}
+use Rattle.numerals.specs.Numerals.{numeralRead}
+use Rattle.numerals.specs.Found.{NumberFound}
+use Rattle.numerals.specs.declared.Number.the-variants as number
+use Rattle.numerals.proofs.Numbers.{Stands, found-not}
 use Rattle.console_text.specs.Reading.{starts, numberRead, secondRead, lineRead}
-use Rattle.console_reader.specs.Found.{NumberFound, LineFound}
-use Rattle.console_reader.specs.declared.line.Number.the-variants as number
+use Rattle.console_reader.specs.Found.{ifGood, LineFound}
 use Rattle.console_reader.specs.declared.line.Line.the-variants.{Is, Not}
 use Rattle.console_reader.proofs.Standing.{fits}
-use Rattle.console_reader.proofs.Numbers.{Stands, found-not, word-behind, no-word}
+use Rattle.console_reader.proofs.Numbers.{good-there, bad-there, number-there, word-behind, no-word}
 
 module _ (s : List ℕ) (at : ℕ) (m : Maker) (code : ℕ) (p : Phrase) (holds : Holds p (wordsOf m code)) where
   abbrev size : ℕ
@@ -34,29 +38,37 @@ module _ (s : List ℕ) (at : ℕ) (m : Maker) (code : ℕ) (p : Phrase) (holds 
     pub name-fits : at ≤ length s → at + size ≤ length s
     name-fits inside = rw long at (fits name s at inside named)
 
-    pub no-first : NumberFound s (numberRead (drop (at + size) s)) number.Not → LineFound s (lineRead m code (drop at s)) Not
+    pub no-first : NumberFound s (numeralRead (drop (at + size) s)) number.Not → LineFound s (lineRead m code (drop at s)) Not
     unfolding lineRead wordsIn
     no-first found =
-        let (why, is) = found-not s (numberRead (drop (at + size) s)) found in
+        let rest = drop (at + size) s in
+        let (why, is) = bad-there (numberRead rest) (number-there rest ∙ found-not s (numeralRead rest) found) in
         rw (← (holds .holds), word-behind s at name size long named, is) refl
 
-    module _ (one behind : ℕ) (first : Stands s (numberRead (drop (at + size) s)) one behind) where
-      pub no-second : NumberFound s (secondRead ((wordsIn p) .between) (drop behind s)) number.Not → LineFound s (lineRead m code (drop at s)) Not
+    module _ (one behind : ℕ) (first : Stands s (numeralRead (drop (at + size) s)) one behind) where
+      first-is : numberRead (drop (at + size) s) ≡ good (record { value = first .number; rest = drop behind s })
+      first-is = good-there (numberRead (drop (at + size) s)) (number-there (drop (at + size) s) ∙ first .is)
+
+      pub no-second : NumberFound s (ifGood (secondRead ((wordsIn p) .between) (drop behind s))) number.Not → LineFound s (lineRead m code (drop at s)) Not
       unfolding lineRead wordsIn
       no-second found =
-          let (why, is) = found-not s (secondRead ((wordsIn p) .between) (drop behind s)) found in
-          rw (← (holds .holds), word-behind s at name size long named, first .is, is) refl
+          let second = secondRead ((wordsIn p) .between) (drop behind s) in
+          let (why, is) = bad-there second (found-not s (ifGood second) found) in
+          rw (← (holds .holds), word-behind s at name size long named, first-is, is) refl
 
-      module _ (two end : ℕ) (second : Stands s (secondRead ((wordsIn p) .between) (drop behind s)) two end) where
+      module _ (two end : ℕ) (second : Stands s (ifGood (secondRead ((wordsIn p) .between) (drop behind s))) two end) where
+        second-is : secondRead ((wordsIn p) .between) (drop behind s) ≡ good (record { value = second .number; rest = drop end s })
+        second-is = good-there (secondRead ((wordsIn p) .between) (drop behind s)) (second .is)
+
         pub not-ended : starts (10 ∷ []) (drop end s) ≡ false → LineFound s (lineRead m code (drop at s)) Not
         unfolding lineRead wordsIn text
         not-ended other =
-            rw (← (holds .holds), word-behind s at name size long named, first .is, second .is, no-word s end (10 ∷ []) other) refl
+            rw (← (holds .holds), word-behind s at name size long named, first-is, second-is, no-word s end (10 ∷ []) other) refl
 
         pub line-found : starts (10 ∷ []) (drop end s) ≡ true → LineFound s (lineRead m code (drop at s)) (Is code one two (end + 1))
         unfolding lineRead wordsIn text
         line-found ends =
-            rw (← (holds .holds), word-behind s at name size long named, first .is, second .is, word-behind s end (10 ∷ []) 1 refl ends) (
+            rw (← (holds .holds), word-behind s at name size long named, first-is, second-is, word-behind s end (10 ∷ []) 1 refl ends) (
               end + 1,
               rw (first .is-held, second .is-held) refl,
               record { inside = fits (10 ∷ []) s end (second .inside) ends; is = refl },

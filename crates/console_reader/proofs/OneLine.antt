@@ -23,20 +23,14 @@ use Rattle.deployment.specs.declared.Why.{Why}
 use Rattle.deployment.specs.declared.Why.the-variants.{NoCommand, Beyond}
 use Rattle.deployment.proofs.Tests.{says-and, says-at-most, not-says}
 use Rattle.values.proofs.Scripts.{decoded-is, decoded-wrong}
-use Rattle.console_text.specs.Reading.{Got, anyRead, most-number, mostSecond, inBounds, heardCoded, decodedRead, commandRead}
+use Rattle.numerals.specs.Numerals.{Got}
+use Rattle.numerals.specs.Found.{most-held, held, Left}
+use Rattle.numerals.proofs.Counting.{held-within, held-is}
+use Rattle.console_text.specs.Reading.{anyRead, most-number, mostSecond, inBounds, heardCoded, decodedRead, commandRead}
 use Rattle.console_text.proofs.FirstLine.{byChecked, any-bad}
-use Rattle.console_reader.specs.Found.{most-held, held, Left, LineFound, NextFound}
+use Rattle.console_reader.specs.Found.{LineFound, NextFound}
 use Rattle.console_reader.specs.declared.line.Line.the-variants as line
 use Rattle.console_reader.specs.declared.Next.the-variants as next
-
--- A number that is held: never above the number, and the number itself below the most that is held.
-held-within : (n : ℕ) → held n ≤ n
-unfolding held
-held-within n = omega arith
-
-held-is : (n : ℕ) → held n < most-held → held n ≡ n
-unfolding held
-held-is n h = omega arith
 
 -- The bounds are below the most that is held, and a second number within them is heard as one of two bytes.
 most-second-below : (m : Maker) (code : ℕ) → mostSecond m code < most-held

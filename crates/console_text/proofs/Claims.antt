@@ -40,8 +40,9 @@ use Rattle.deployment.specs.Values.{commandFrom, Script}
 use Rattle.deployment.specs.Properties.{Scripted}
 use Rattle.deployment.specs.declared.Refusal.{Refusal}
 use Rattle.deployment.proofs.Scripts.{command-read}
+use Rattle.numerals.specs.Numerals.{Got}
 use Rattle.console_text.specs.Text.{linesOf, scriptText}
-use Rattle.console_text.specs.Reading.{Got, anyRead, mostSecond, understood, turned, textRead, textNumbers}
+use Rattle.console_text.specs.Reading.{anyRead, mostSecond, understood, turned, textRead, textNumbers}
 use Rattle.console_text.specs.Properties.{Bounded, Readable}
 use Rattle.console_text.specs.Claims.{
   WrittenAndRead,

@@ -23,8 +23,9 @@ use Rattle.deployment.proofs.FieldValues.{Good, good-then}
 use Rattle.deployment.specs.Checked.{Checked, good, bad}
 use Rattle.deployment.specs.declared.Why.the-variants.{NoCommand}
 use Rattle.lines.specs.Text.{text, moveWords, wordsOf, decimal, secondText, commandText}
+use Rattle.numerals.specs.Numerals.{Got, isDigit}
 use Rattle.console_text.specs.Text.{lineOf}
-use Rattle.console_text.specs.Reading.{Got, isDigit, numberRead, wordRead, secondRead, lineRead, anyRead}
+use Rattle.console_text.specs.Reading.{numberRead, wordRead, secondRead, lineRead, anyRead}
 use Rattle.console_text.proofs.Wording.{good-is, good-map, word-read, word-good, apart, word-apart}
 use Rattle.console_text.proofs.Numerals.{number-read, IsNumber, number-good}
 

@@ -30,8 +30,9 @@ use Rattle.deployment.specs.Checked.{good, bad, whyNumber}
 use Rattle.deployment.specs.declared.Refusal.{Refusal}
 use Rattle.deployment.specs.declared.Why.{Why}
 use Rattle.deployment.specs.declared.Why.the-variants.{NoCommand, Beyond, Length}
+use Rattle.numerals.specs.Numerals.{Got}
 use Rattle.console_text.specs.Text.{lineOf, linesOf}
-use Rattle.console_text.specs.Reading.{Got, commandRead, Understood, understood, turned, behindIt, readFrom, textRead}
+use Rattle.console_text.specs.Reading.{commandRead, Understood, understood, turned, behindIt, readFrom, textRead}
 use Rattle.console_text.specs.Properties.{GoesOnWith, Bounded, Readable, Wrong, StopsAt}
 use Rattle.console_text.proofs.FirstLine.{some-line, front-read, front-beyond, front-none, by-first}
 

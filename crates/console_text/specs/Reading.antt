@@ -1,6 +1,6 @@
 -- 02, L2: "and read it back". "The reader is told type and maker. Words and numbers are parted by one blank, numbers have no leading zeros, each
 -- line ends in a line feed." What isn't so is no command: 55. Assumes nothing.
-use Prim.Native.Nat.{ℕ, zero, suc, _+_, _*_, _-_}
+use Prim.Native.Nat.{ℕ, zero, suc}
 use mathlib.Core.Bool.{Bool, true, false, cond, _&&_}
 use mathlib.Core.List.{List, [], _∷_}
 use mathlib.Core.Option.{Option, none, some}
@@ -17,11 +17,7 @@ use Rattle.deployment.specs.Values.{commandFrom}
 use Rattle.deployment.specs.declared.Refusal.{Refusal}
 use Rattle.deployment.specs.declared.Why.the-variants.{Length, Coding, NoCommand, Beyond}
 use Rattle.lines.specs.Text.{text, wordsOf}
-
--- what is read at the front of a text, and what is left of it
-pub record Got (T : Type 0) : Type 0 where
-  pub value : T
-  pub rest : List ℕ
+use Rattle.numerals.specs.Numerals.{Got, numeralRead}
 
 -- whether a text starts with a word
 unfoldable pub starts : List ℕ → List ℕ → Bool
@@ -35,21 +31,9 @@ wordRead word s = do
   require (starts word s) NoCommand
   good (drop (length word) s)
 
--- a decimal digit, from `0` to `9`
-unfoldable pub isDigit : ℕ → Bool
-isDigit b = leb 48 b && leb b 57
-
--- the digits that follow, behind those of a number
-unfoldable pub goesOn : ℕ → List ℕ → Got ℕ
-goesOn n [] = record { value = n; rest = [] }
-goesOn n (b ∷ s) = elim (isDigit b) [ true ↦ goesOn (10 * n + (b - 48)) s | false ↦ record { value = n; rest = b ∷ s } ]
-
--- "numbers have no leading zeros": behind a first `0` no digit belongs to the number
+-- "numbers have no leading zeros": a number as `numerals` reads it, or no command
 unfoldable pub numberRead : List ℕ → Checked (Got ℕ)
-numberRead [] = bad NoCommand
-numberRead (b ∷ s) = do
-  require (isDigit b) NoCommand
-  good (cond (eqb b 48) (record { value = 0; rest = s }) (goesOn (b - 48) s))
+numberRead s = elim (numeralRead s) [ none ↦ bad NoCommand | some got ↦ good got ]
 
 -- the second number, behind its word, if there is one; "a number that a command doesn't use is 0"
 unfoldable pub secondRead : Option (List ℕ) → List ℕ → Checked (Got ℕ)

@@ -32,11 +32,13 @@ use Rattle.deployment.specs.declared.Why.the-variants.{
   Default,
   NoCommand,
   Beyond,
+  NotRead,
+  LowAbove,
 }
 
 abbrev whys : List Why
 whys = Cut ∷ Tag ∷ NoTarget ∷ Length ∷ Bounds ∷ Equal ∷ TooMany
-    ∷ Outside ∷ Twice ∷ Keep ∷ Coding ∷ NoScript ∷ Room ∷ Default ∷ NoCommand ∷ Beyond ∷ []
+    ∷ Outside ∷ Twice ∷ Keep ∷ Coding ∷ NoScript ∷ Room ∷ Default ∷ NoCommand ∷ Beyond ∷ NotRead ∷ LowAbove ∷ []
 
 why-again : (why : Why) → numbered whyNumber whys (whyNumber why) ≡ some why
 unfolding numbered
@@ -56,12 +58,14 @@ why-again Room = refl
 why-again Default = refl
 why-again NoCommand = refl
 why-again Beyond = refl
+why-again NotRead = refl
+why-again LowAbove = refl
 
 pub why-numbers-differ : WhyNumbersDiffer
 why-numbers-differ = told-apart whyNumber (numbered whyNumber whys) why-again
 
 -- below those of commands and verdicts, or above them
-pub why-numbers : (why : Why) → (whyNumber why ≤ 13) ⊎ ((50 ≤ whyNumber why) × (whyNumber why ≤ 56))
+pub why-numbers : (why : Why) → (whyNumber why ≤ 13) ⊎ ((50 ≤ whyNumber why) × (whyNumber why ≤ 58))
 why-numbers Cut = inl (omega arith)
 why-numbers Tag = inl (omega arith)
 why-numbers NoTarget = inl (omega arith)
@@ -78,8 +82,10 @@ why-numbers Room = inl (omega arith)
 why-numbers Default = inr (omega arith, omega arith)
 why-numbers NoCommand = inr (omega arith, omega arith)
 why-numbers Beyond = inr (omega arith, omega arith)
+why-numbers NotRead = inr (omega arith, omega arith)
+why-numbers LowAbove = inr (omega arith, omega arith)
 
-pub why-small : (why : Why) → whyNumber why ≤ 56
+pub why-small : (why : Why) → whyNumber why ≤ 58
 why-small why = ⊎-elim (λ low. omega arith) (λ is. is .1) (why-numbers why)
 
 -- no refusal has a number between: those are of commands and verdicts

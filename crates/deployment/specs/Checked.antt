@@ -21,10 +21,12 @@ use Rattle.deployment.specs.declared.Why.the-variants.{
   Default,
   NoCommand,
   Beyond,
+  NotRead,
+  LowAbove,
 }
 
 -- the table's first column; 02, L1: "50 for a value other than 1"; L2: "55 .. for a line that isn't a command of that type, then 56 for a
--- number above 65,535"
+-- number above 65,535"; L3: "57 for what isn't read, 58 for a low above its high"
 abbrev pub whyNumber : Why → ℕ
 whyNumber Cut = 1
 whyNumber Tag = 2
@@ -42,6 +44,8 @@ whyNumber Room = 13
 whyNumber Default = 50
 whyNumber NoCommand = 55
 whyNumber Beyond = 56
+whyNumber NotRead = 57
+whyNumber LowAbove = 58
 
 -- the number of a refusal, and its position
 unfoldable pub refusalNumbers : Refusal → List ℕ

@@ -3,7 +3,7 @@
 
 use policy::Command;
 
-// Numbers 1 to 13 of "Turned away", 50, 55 and 56.
+// Numbers 1 to 13 of "Turned away", 50 and 55 to 58.
 pub enum Why {
     Cut,
     Tag,
@@ -21,6 +21,8 @@ pub enum Why {
     Default,
     NoCommand,
     Beyond,
+    NotRead,
+    LowAbove,
 }
 
 // The number's case, and the position.

@@ -45,7 +45,7 @@ fn flow_at(flows: &[u8], k: usize) -> Flow
 }
 
 // "0 deny, 1 permit"
-fn action_byte(action: Action) -> u8
+pub fn action_byte(action: Action) -> u8
     ensures { λ n. ⌜ n ≡ actionNumber action ⌝ }
 {
     match action {

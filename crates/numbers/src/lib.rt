@@ -19,7 +19,7 @@ pub fn fault_number(fault: Fault) -> u8
     }
 }
 
-// Numbers 1 to 13 of "Turned away", 50, 55 and 56.
+// Numbers 1 to 13 of "Turned away", 50 and 55 to 58.
 pub fn why_number(why: Why) -> u8
     ensures { λ n. ⌜ n ≡ whyNumber why ⌝ }
 {
@@ -40,5 +40,7 @@ pub fn why_number(why: Why) -> u8
         Why::Default => 50,
         Why::NoCommand => 55,
         Why::Beyond => 56,
+        Why::NotRead => 57,
+        Why::LowAbove => 58,
     }
 }

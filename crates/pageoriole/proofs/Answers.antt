@@ -22,6 +22,7 @@ use Rattle.pageoriole.proofs.texts.pageoriole_script_text_file.Reads as
 use Rattle.pageoriole.proofs.texts.pageoriole_plan_one_text.Reads as plan-one-text
 use Rattle.pageoriole.proofs.texts.pageoriole_plan_two_text.Reads as plan-two-text
 use Rattle.pageoriole.proofs.texts.pageoriole_text_script.Reads as text-script
+use Rattle.pageoriole.proofs.listings.pageoriole_from_iptables.Reads as from-iptables
 use Rattle.pageoriole.proofs.lists.pageoriole_check.Reads as check
 use Rattle.pageoriole.proofs.lists.pageoriole_write.Reads as write
 use Rattle.pageoriole.proofs.lists.pageoriole_decide.Reads as decide
@@ -100,6 +101,10 @@ one-plan-two-text κ a r s e f p q = one-left p q
 pub one-text-script : (κ : _) (a : _) (r s : ℕ) (e f : _) → text-script.Post κ a r e → text-script.Post κ a s f
     → (r ≡ s) × (now (e .1 .1 .1 .1 .0) ≡ now (f .1 .1 .1 .1 .0)) × (now (e .1 .1 .1 .0) ≡ now (f .1 .1 .1 .0))
 one-text-script κ a r s e f p q = one-left p q
+
+pub one-from-iptables : (κ : _) (a : _) (r s : ℕ) (e f : _) → from-iptables.Post κ a r e → from-iptables.Post κ a s f
+    → (r ≡ s) × (now (e .1 .1 .0) ≡ now (f .1 .1 .0)) × (now (e .1 .0) ≡ now (f .1 .0))
+one-from-iptables κ a r s e f p q = one-left p q
 
 pub one-check : (κ : _) (a : _) (r s : ℕ) (e f : _) → check.Post κ a r e → check.Post κ a s f
     → (r ≡ s) × (now (e .1 .1 .1 .1 .1 .1 .1 .1 .1 .0) ≡ now (f .1 .1 .1 .1 .1 .1 .1 .1 .1 .0))

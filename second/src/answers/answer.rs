@@ -52,10 +52,10 @@ pub struct Answers {
 /// Answers to one question that differ, as they are printed.
 pub type Difference = (String, String);
 
-/// A script field is shown in letters.
+/// A script field and a file are shown in letters.
 fn shown((program, bytes): &Printed) -> String {
     match program {
-        Program::Textscript(..) => format!("{program:?}: {}", bytes.escape_ascii()),
+        Program::Textscript(..) | Program::Fromiptables => format!("{program:?}: {}", bytes.escape_ascii()),
         _ => format!("{program:?}:\n{}", String::from_utf8_lossy(bytes)),
     }
 }

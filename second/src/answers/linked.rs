@@ -6,9 +6,10 @@ use crate::console::{Maker, What};
 use crate::library;
 use crate::policy::PolicyValues;
 
-/// No text is longer, and no console text or script field.
+/// No text is longer, and no console text or script field, and no file of a listing.
 const TEXT_BYTES: usize = 262_144;
 const CONSOLE_BYTES: usize = 65_536;
+const FILE_BYTES: usize = 20_000;
 
 /// What is written into ample room; or the refusal's line.
 fn text(room: usize, call: impl FnOnce(&mut [u8], &mut [u64]) -> u32) -> Vec<u8> {
@@ -99,6 +100,14 @@ fn of_texts(input: &Input) -> Vec<Answer> {
     all
 }
 
+fn of_listings(input: &Input) -> Vec<Answer> {
+    let mut all = Vec::new();
+    for (listing, room) in input.listings.iter().zip(input.rooms.listings) {
+        all.push(Answer::lend("file of listing", room, |place, words| library::from_iptables(listing, place, words)));
+    }
+    all
+}
+
 fn printed(program: Program, input: &[u8]) -> Vec<u8> {
     match program {
         Program::Planlist => text(TEXT_BYTES, |place, words| library::plan_text(input, place, words)),
@@ -110,6 +119,7 @@ fn printed(program: Program, input: &[u8]) -> Vec<u8> {
         Program::Textscript(maker, kind) => {
             text(CONSOLE_BYTES, |place, words| library::text_script(input, kind, maker, place, words))
         }
+        Program::Fromiptables => text(FILE_BYTES, |place, words| library::from_iptables(input, place, words)),
     }
 }
 
@@ -117,6 +127,7 @@ pub fn linked(input: &Input) -> Answers {
     let mut entries = over_files(input);
     entries.extend(over_values(input));
     entries.extend(of_texts(input));
+    entries.extend(of_listings(input));
     let print = |(program, input)| (program, printed(program, input));
     Answers { printed: input.questions().into_iter().map(print).collect(), entries: Some(entries) }
 }

@@ -7,13 +7,14 @@ use crate::console::{self, Maker, What};
 use crate::file::{self, Contents, Values};
 use crate::format::{list_value, numbers, Refusal};
 use crate::inputs::{MadeText, RoomMaker};
+use crate::iptables::{from_iptables, listing_text};
 use crate::judge::judge;
 use crate::plan::plan_contents;
 use crate::policy::{self, Decision, Policy, PolicyValues};
 use crate::replay::{self, RunningList};
 use crate::rule::Flow;
 use crate::show::show_text;
-use crate::text::{judge_text, plan_text};
+use crate::text::{self, judge_text, plan_text};
 
 type Outcome = (u32, Vec<usize>);
 type Scripted<'a> = Result<(Contents<'a>, &'a [u8]), Refusal>;
@@ -123,6 +124,7 @@ pub fn rooms(input: &Input, maker: &mut RoomMaker) -> Rooms {
             let MadeText { text, kind, maker: of } = &input.texts[index];
             of_bytes(maker, console::text_script(text, *kind, *of))
         }),
+        listings: std::array::from_fn(|index| of_bytes(maker, from_iptables(&input.listings[index]))),
     }
 }
 
@@ -208,13 +210,22 @@ fn of_texts(input: &Input) -> Vec<Answer> {
     all
 }
 
+fn of_listings(input: &Input) -> Vec<Answer> {
+    let mut all = Vec::new();
+    for (listing, room) in input.listings.iter().zip(input.rooms.listings) {
+        all.push(lend("file of listing", room, |place| put_bytes(from_iptables(listing), place)));
+    }
+    all
+}
+
 fn printed(program: Program, input: &[u8]) -> Vec<u8> {
     match program {
         Program::Planlist => plan_text(input).into_bytes(),
         Program::Judgelist => judge_text(input).into_bytes(),
         Program::Showlist => show_text(input).into_bytes(),
-        Program::Scripttext(maker, what) => console::printed(console::file_text(input, what, maker)),
-        Program::Textscript(maker, kind) => console::printed(console::text_script(input, kind, maker)),
+        Program::Scripttext(maker, what) => text::printed(console::file_text(input, what, maker)),
+        Program::Textscript(maker, kind) => text::printed(console::text_script(input, kind, maker)),
+        Program::Fromiptables => listing_text(input),
     }
 }
 
@@ -222,6 +233,7 @@ pub fn ours(input: &Input) -> Answers {
     let mut entries = over_files(input);
     entries.extend(over_values(input));
     entries.extend(of_texts(input));
+    entries.extend(of_listings(input));
     let print = |(program, input)| (program, printed(program, input));
     Answers { printed: input.questions().into_iter().map(print).collect(), entries: Some(entries) }
 }

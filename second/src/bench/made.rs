@@ -6,6 +6,7 @@ use crate::format::{list_value, numbers, RULE_BYTES};
 use crate::inputs;
 use crate::plan::append_and_delete;
 use crate::rule::{plain_rule, Flow};
+use std::net::Ipv4Addr;
 
 const SEED: u64 = 1;
 const EDITS: usize = 10;
@@ -126,6 +127,19 @@ impl Made {
 /// A catalogue of so many rules that differ in their source address alone.
 pub fn plain_catalogue(rules: usize) -> Vec<u8> {
     (0..rules as u16).flat_map(plain_rule).collect()
+}
+
+/// A listing of so many different rules, each with all options.
+pub fn listing(rules: u32) -> Vec<u8> {
+    let line = |number: u32| {
+        let source = Ipv4Addr::from(0x0a00_0000 + (number << 8));
+        let action = if number.is_multiple_of(2) { "ACCEPT" } else { "DROP" };
+        format!(
+            "-A FORWARD -s {source}/24 -d 192.168.3.0/24 -p tcp -m tcp --sport 1024:65535 --dport 443 -j {action}\n"
+        )
+    };
+    let lines: String = (0..rules).map(line).collect();
+    format!("*filter\n:INPUT ACCEPT [0:0]\n:FORWARD ACCEPT [0:0]\n:OUTPUT ACCEPT [0:0]\n{lines}COMMIT\n").into_bytes()
 }
 
 /// Flows of which about half match one of so many plain rules, each as often.

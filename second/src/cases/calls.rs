@@ -1,9 +1,10 @@
-//! What the program `console_cases` must print for a file, by the calls that the end of
-//! the file's name tells: a script's value, a text, or a deployment file.
+//! What the programs `console_cases` and `iptables_cases` must print for a file, by the calls that
+//! the end of the file's name tells: a script's value, a text, a deployment file, or a listing.
 
 use super::row::CaseFile;
 use crate::console::{file_text, script_text, text_script, Maker, What};
 use crate::format::Refusal;
+use crate::iptables::from_iptables;
 
 type Answer = Result<Vec<u8>, Refusal>;
 
@@ -31,6 +32,10 @@ pub fn text_lines(field: Answer) -> Vec<u8> {
     said("text", field)
 }
 
+pub fn listing_lines(file: Answer) -> Vec<u8> {
+    said("listing", file)
+}
+
 fn file_lines(file: &[u8]) -> Vec<u8> {
     let lines = |(what, maker): (What, Maker)| {
         let name = match what {
@@ -55,4 +60,8 @@ pub fn text_case(name: &str, maker: Maker, kind: u8, text: Vec<u8>) -> CaseFile 
 
 pub fn file_case(name: &str, file: Vec<u8>) -> CaseFile {
     CaseFile { name: format!("{name}.bin"), text: file_lines(&file), bytes: file }
+}
+
+pub fn listing_case(name: &str, listing: Vec<u8>) -> CaseFile {
+    CaseFile { name: format!("{name}.rules"), text: listing_lines(from_iptables(&listing)), bytes: listing }
 }

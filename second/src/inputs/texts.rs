@@ -1,6 +1,7 @@
 //! Made texts for the reader of console text: written, damaged in every way that it
 //! must tell, at the limit of commands, and meaningless ones.
 
+use super::lines::{cut_short, join, other_blanks, other_byte, other_number, other_words, Line};
 use super::random::Random;
 use crate::commands::Command;
 use crate::console::{text_of, Maker};
@@ -12,9 +13,6 @@ pub struct MadeText {
     pub kind: u8,
     pub maker: Maker,
 }
-
-/// A line without its line feed.
-type Line = Vec<u8>;
 
 /// Numbers with each count of digits, and both ends.
 const NUMBERS: [u16; 14] = [0, 1, 2, 3, 9, 10, 99, 100, 999, 1000, 9999, 10000, 65534, 65535];
@@ -104,73 +102,6 @@ fn other_maker(maker: Maker) -> Maker {
 
 // ---- Damage to a line ----
 
-/// Where the words of a line that are numbers start and end.
-fn numbers_in(line: &[u8]) -> Vec<(usize, usize)> {
-    let mut found = Vec::new();
-    let mut start = 0;
-    for word in line.split(|&byte| byte == b' ') {
-        let end = start + word.len();
-        if word.first().is_some_and(u8::is_ascii_digit) {
-            found.push((start, end));
-        }
-        start = end + 1;
-    }
-    found
-}
-
-/// A number of the line with something before it, or another in its place.
-fn other_number(random: &mut Random, line: &mut Line) {
-    let found = numbers_in(line);
-    if found.is_empty() {
-        return;
-    }
-    let (start, end) = random.pick(&found);
-    match random.below(6) {
-        0 => line.insert(start, b'0'),
-        1 => line.insert(start, random.pick(b"+-")),
-        2 => drop(line.drain(start..end)),
-        _ => drop(line.splice(start..end, random.pick(&ODD_NUMBERS).bytes())),
-    }
-}
-
-/// A blank too many: before the line, behind it, or beside a blank; or another byte for a blank.
-fn other_blanks(random: &mut Random, line: &mut Line) {
-    let blanks: Vec<usize> = (0..line.len()).filter(|&at| line[at] == b' ').collect();
-    match random.below(5) {
-        0 => line.insert(0, b' '),
-        1 => line.push(b' '),
-        _ if blanks.is_empty() => {}
-        2 => line[random.pick(&blanks)] = random.pick(b"\t_\0"),
-        3 => drop(line.remove(random.pick(&blanks))),
-        _ => line.insert(random.pick(&blanks), b' '),
-    }
-}
-
-/// A word left out, put in, or in another's place.
-fn other_words(random: &mut Random, line: &mut Line) {
-    let mut words: Vec<Vec<u8>> = line.split(|&byte| byte == b' ').map(<[u8]>::to_vec).collect();
-    let at = random.below(words.len());
-    let new = random.pick(&WORDS).as_bytes().to_vec();
-    match random.below(4) {
-        0 => drop(words.remove(at)),
-        1 => words.insert(at, new),
-        2 => words.push(random.below(20).to_string().into_bytes()),
-        _ => words[at] = new,
-    }
-    *line = words.join(&b' ');
-}
-
-/// A byte behind the line, often a carriage return, or another byte in it.
-fn other_byte(random: &mut Random, line: &mut Line) {
-    let byte = random.pick(b"\r\r\r\0\xff9x");
-    if line.is_empty() || random.one_in(2) {
-        line.push(byte);
-    } else {
-        let at = random.below(line.len());
-        line[at] = if random.one_in(2) { byte } else { line[at] ^ (1 << random.below(8)) };
-    }
-}
-
 /// A move of B that may leave the rule where it is, also at the greatest numbers.
 fn staying_move(random: &mut Random) -> Line {
     let i = u64::from(any_number(random));
@@ -197,9 +128,9 @@ fn damage(random: &mut Random, lines: &mut Vec<Line>, kind: u8, maker: Maker) {
         return;
     }
     match random.below(10) {
-        0..=3 => other_number(random, &mut lines[at]),
+        0..=3 => other_number(random, &mut lines[at], &ODD_NUMBERS),
         4 | 5 => other_blanks(random, &mut lines[at]),
-        6 => other_words(random, &mut lines[at]),
+        6 => other_words(random, &mut lines[at], &WORDS),
         7 => other_byte(random, &mut lines[at]),
         _ => lines[at] = other_line(random, kind, maker),
     }
@@ -217,14 +148,10 @@ fn lengthened(random: &mut Random, lines: &mut Vec<Line>, kind: u8, maker: Maker
         0 => lines.push(other_line(random, kind, maker)),
         1 => {
             let last = lines.len() - random.between(1, 3);
-            other_number(random, &mut lines[last]);
+            other_number(random, &mut lines[last], &ODD_NUMBERS);
         }
         _ => {}
     }
-}
-
-fn join(lines: &[Line]) -> Vec<u8> {
-    lines.iter().flat_map(|line| [&line[..], b"\n"].concat()).collect()
 }
 
 fn any_lines(random: &mut Random, kind: u8, maker: Maker) -> Vec<Line> {
@@ -258,9 +185,7 @@ fn any_text(random: &mut Random, kind: u8, maker: Maker) -> Vec<u8> {
     }
     let mut text = join(&lines);
     if random.one_in(12) {
-        // Mostly the last line feed.
-        let left = if random.one_in(3) { random.between(0, text.len()) } else { text.len().saturating_sub(1) };
-        text.truncate(left);
+        cut_short(random, &mut text);
     }
     text
 }

@@ -110,9 +110,6 @@ other-field-requires c κs = inside c
 returns : tie.Need-returns Inv-loop μ-loop
 returns c = c .before .before .before .loop .inv .1
 
-mark-of-requires : tie.Need-mark-of-requires Inv-loop μ-loop
-mark-of-requires c κs = long c
-
 array-read-cell : tie.Need-array-read-cell Inv-loop μ-loop
 array-read-cell c = omega (arith, c .before .mark-of .ensures .1)
 
@@ -160,6 +157,9 @@ records-requires c κs = search needs
 
 record-at-requires : tie.Need-record-at-requires Inv-loop μ-loop
 record-at-requires c κs = search needs
+
+mark-of-requires : tie.Need-mark-of-requires Inv-loop μ-loop
+mark-of-requires c κs = search needs
 
 tag-of-requires : tie.Need-tag-of-requires Inv-loop μ-loop
 tag-of-requires c κs = search needs

@@ -8,9 +8,11 @@ use lib.Seq.{length-take-le}
 use Rattle.policy.proofs.Tests.{fails, passes}
 use Rattle.lines.specs.Printing.{wordsIn}
 use Rattle.lines.proofs.Wording.{holds-own}
-use Rattle.console_text.specs.Reading.{starts, numberRead, secondRead}
+use Rattle.numerals.specs.Numerals.{numeralRead}
+use Rattle.numerals.proofs.Numbers.{Stands, found-is}
+use Rattle.console_text.specs.Reading.{starts, secondRead}
+use Rattle.console_reader.specs.Found.{ifGood}
 use Rattle.console_reader.proofs.Standing.{fits}
-use Rattle.console_reader.proofs.Numbers.{Stands, found-is}
 use Rattle.console_reader.proofs.Lines.{not-named, name-fits, no-first, no-second, not-ended, line-found}
 use borrow.Author.Needs.{needs}
 use Rattle.console_reader.proofs.line.line_at.Statement.{statement}
@@ -47,13 +49,14 @@ room c =
 
 first : (c : tie.After-known-told)
     → let p = chosen (named-at c .before) in let args = start p .args in
-    Stands (args .text .now) (numberRead (drop (args .at + p .phrase-of .result .«name_bytes») (args .text .now))) (c .before .first .given .0 .0)
+    Stands (args .text .now) (numeralRead (drop (args .at + p .phrase-of .result .«name_bytes») (args .text .now))) (c .before .first .given .0 .0)
     (c .before .first .given .0 .1 .0)
 first c = found-is _ _ _ _ (rw (c .before .first .given .1) at (c .before .before .before .number-at .ensures))
 
 second : (c : tie.After-known-told2)
     → let p = chosen (named-at (one c) .before) in
-    Stands (start p .args .text .now) (secondRead ((wordsIn (p .phrase-of .result)) .between) (drop (one c .before .first .given .0 .1 .0) (start p .args .text .now)))
+    Stands (start p .args .text .now)
+    (ifGood (secondRead ((wordsIn (p .phrase-of .result)) .between) (drop (one c .before .first .given .0 .1 .0) (start p .args .text .now))))
     (c .before .second .given .0 .0) (c .before .second .given .0 .1 .0)
 second c = found-is _ _ _ _ (rw (c .before .second .given .1) at (c .before .before .before .second-at .ensures))
 
@@ -104,9 +107,6 @@ returns c =
     not-named (args .text .now) (args .at) (args .maker) (args .code) (p .phrase-of .result) (p .phrase-of .ensures)
     (fails (c .before .stands .ensures) (c .if1 .taken))
 
-number-at-requires : tie.Need-number-at-requires
-number-at-requires c κs = room c
-
 second-at-requires : tie.Need-second-at-requires
 second-at-requires c κs = (first c .inside, holds-own (chosen (named-at c .before) .phrase-of .ensures))
 
@@ -130,6 +130,9 @@ array-share-prefix-name c = search needs
 
 stands-requires : tie.Need-stands-requires
 stands-requires c κs = search needs
+
+number-at-requires : tie.Need-number-at-requires
+number-at-requires c κs = search needs
 
 enum-known-first : tie.Need-enum-known-first
 enum-known-first c = search needs

@@ -56,14 +56,14 @@ slice-aggregate-stands c = sym (length-take-le _ _ (start (c .before .before) .p
 add-number-at : tie.Need-add-number-at
 add-number-at c = let r = room c in search needs
 
-number-at-requires : tie.Need-number-at-requires
-number-at-requires c κs = room c
-
 array-share-prefix-between : tie.Need-array-share-prefix-between
 array-share-prefix-between c = search needs
 
 stands-requires : tie.Need-stands-requires
 stands-requires c κs = search needs
+
+number-at-requires : tie.Need-number-at-requires
+number-at-requires c κs = search needs
 
 pub second-at-spec : {M : Type 1} → statement M
 second-at-spec =

@@ -1,0 +1,2 @@
+-- What is found of a rule line.
+pub mod Found

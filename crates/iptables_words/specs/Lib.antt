@@ -1,0 +1,2 @@
+-- What the functions on words tell.
+pub mod Told
