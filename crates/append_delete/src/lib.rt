@@ -1,5 +1,7 @@
 // The script for append and delete: deletes of what is not kept, then appends. Made in a place of its own, then sent to the lent one.
 
+#![tactic(auto)]
+
 ghost use Rattle.std.specs.Prelude.{◌≡◌, false, ℕ, ◌+◌, ◌-◌, ◌≤◌, ◌<◌, length, take, get_or};
 ghost use Rattle.policy.specs.AppendDelete.{kept_run};
 ghost use Rattle.policy.specs.Lists.{mem};

@@ -1,5 +1,7 @@
 // What the console programs are asked for, by the words that they are called with: a maker, and a type or the file's own script.
 
+#![tactic(auto)]
+
 ghost use Rattle.std.specs.Prelude.{◌≡◌, [], ◌∷◌};
 ghost use Rattle.policy.specs.Lists.{same};
 ghost use Rattle.lines.specs.Text.{text};
@@ -8,14 +10,14 @@ ghost use Rattle.asked.specs.Words.{maker_asked, what_asked};
 use console::Maker;
 
 // A maker, or another word.
-#[derive(Drop)]
+#[derive(Clone, Copy)]
 pub enum MakerAsked {
     Is(Maker),
     Other,
 }
 
 // Type 1, type 2, the file's own script, or another word.
-#[derive(Drop)]
+#[derive(Clone, Copy)]
 pub enum WhatAsked {
     One,
     Two,

@@ -1,6 +1,8 @@
 // What `vectors` and the case programs share: the files that their arguments name, rows, rooms, checksums, and the lines that they print.
 // A row is a two-byte length and that many bytes, again and again.
 
+#![tactic(auto)]
+
 ghost use Rattle.std.specs.Prelude.{◌≡◌, ◌≤◌, ◌-◌, length};
 ghost use Rattle.io.specs.Counts.{IsPrefixLen};
 

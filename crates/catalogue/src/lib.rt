@@ -1,5 +1,7 @@
 // The catalogue: a rule of it (rule.rt), and all rules of a field value. Entries that take lists and the file reader share these tests.
 
+#![tactic(auto)]
+
 ghost use Rattle.std.specs.Prelude.{◌≡◌, take};
 ghost use Rattle.deployment.specs.Catalogue.{catalogue_of};
 ghost use Rattle.deployment.specs.FieldValues.{catalogue_value};
@@ -13,7 +15,7 @@ use rule::{apart, rule_tested};
 pub mod rule;
 
 // Whether a value passes its tests.
-#[derive(Drop)]
+#[derive(Clone, Copy)]
 pub enum Checking {
     Good,
     Bad(Why),

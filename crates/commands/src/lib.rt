@@ -1,6 +1,8 @@
 // The commands of a script as bytes: which codes a type allows, a command read from a script value, and its five bytes. Each answers for every
 // byte and every place in a value; what a command means is in crate `policy`.
 
+#![tactic(auto)]
+
 ghost use Rattle.std.specs.Prelude.{◌≡◌};
 ghost use Rattle.policy.specs.Lists.{mem};
 ghost use Rattle.policy.specs.Command.{coded, codes_of, is_type};

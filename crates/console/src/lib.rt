@@ -1,20 +1,22 @@
 // The commands of document 01 in the words of two makers' consoles, without their bytes. The makers count the second number of a move
 // differently: here that number has its owner. What the words do to a running list is in specs/.
 
+#![tactic(auto)]
+
 ghost use Rattle.std.specs.Prelude.{◌≡◌};
 ghost use Rattle.console.specs.Makers.{maker_of, said, worded, second_said, second_heard};
 
 use policy::Command;
 
 // 02, L2: "maker A (as in document 01) and maker B"
-#[derive(Drop)]
+#[derive(Clone, Copy)]
 pub enum Maker {
     A,
     B,
 }
 
 // A command in a maker's words: its code, and its numbers as that maker counts them.
-#[derive(Drop)]
+#[derive(Clone, Copy)]
 pub struct Worded {
     pub code: u8,
     pub one: usize,

@@ -3,6 +3,8 @@
 // written for both makers. What is written is printed as it is; then the same call is lent one byte too little. Each line of a call ends by whether all other
 // bytes are as they were.
 
+#![tactic(auto)]
+
 use cases::{filled, print_answer, read_argument};
 use console::Maker;
 use console_reader::text_script;
@@ -29,7 +31,7 @@ const MAKER_B: u8 = b'B';
 
 const ZERO: u8 = b'0';
 
-#[derive(Drop)]
+#[derive(Clone, Copy)]
 enum Call {
     Script(Maker),
     Text(Maker, u8),

@@ -1,6 +1,8 @@
 // Console text, read back as a script: told type and maker, the entry writes a script field. What a text is read as stands in `console_text`.
 // The text is gone through twice: the first time nothing is put, so that a text that is turned away leaves the place alone.
 
+#![tactic(auto)]
+
 ghost use Rattle.std.specs.Prelude.{◌≤◌, ◌≡◌, List, length, drop};
 ghost use Rattle.policy.specs.Policy.{most_commands};
 ghost use Rattle.policy.specs.declared.Command.{Command};
@@ -29,14 +31,14 @@ pub const MOST_FIELD: usize = HEAD_BYTES + SCRIPT_BYTES;
 const MOST_NUMBER: usize = 65535;
 
 // A command and the position behind its line, or why the line is turned away.
-#[derive(Drop)]
+#[derive(Clone, Copy)]
 enum Next {
     Is(Command, usize),
     Turned(Why),
 }
 
 // How many commands a text has, or why it is turned away.
-#[derive(Drop)]
+#[derive(Clone, Copy)]
 enum Counted {
     Commands(u16),
     Turned(Refusal),

@@ -14,7 +14,7 @@ use numerals::{Number, number_at};
 use policy::Command;
 
 // A line's code, its two numbers and the position behind it, or that it is no command.
-#[derive(Drop)]
+#[derive(Clone, Copy)]
 pub enum Line {
     Is(u8, usize, usize, usize),
     Not,

@@ -1,6 +1,8 @@
 // A script as console text, one command a line, in the words of a maker: of a script value here, of a file in files.rt. What the text is stands in
 // `console_text`. No entry has a `requires`.
 
+#![tactic(auto)]
+
 ghost use Rattle.std.specs.Prelude.{◌≡◌};
 ghost use Rattle.deployment.specs.Values.{script_of};
 ghost use Rattle.deployment.specs.FieldValues.{left_by};

@@ -1,5 +1,7 @@
 // The first-match decision of a flow, over a catalogue and the list of a policy as bytes, under a default.
 
+#![tactic(auto)]
+
 ghost use Rattle.std.specs.Prelude.{◌≡◌, cond, ◌+◌, ◌≤◌, length};
 ghost use Rattle.policy.specs.Rule.{hits, says, matches, lies};
 ghost use Rattle.policy.specs.declared.Action.TheVariants.{Deny, Permit};

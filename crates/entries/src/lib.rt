@@ -2,6 +2,8 @@
 // Each entry answers in full, and none has a `requires`: the file is read or the values are tested here, and once; what is asked is then
 // answered by a crate of its own, for accepted values.
 
+#![tactic(auto)]
+
 use deployment::Refusal;
 use policy::Decision;
 
@@ -9,7 +11,7 @@ pub mod files;
 pub mod lists;
 
 // A flow's decision, or why the bytes are turned away.
-#[derive(Drop)]
+#[derive(Clone, Copy)]
 pub enum Decided {
     Is(Decision),
     Turned(Refusal),

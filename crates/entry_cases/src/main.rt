@@ -3,6 +3,8 @@
 // have two numbers each), then its parts, themselves a row: the file; or the rules, both policies, the default, the keep list and the script; and last flows,
 // for entries that take many.
 
+#![tactic(auto)]
+
 use cases::{
     bytes_at, checksum, next_place, print_number, print_reading, print_refusal, read_argument,
 };

@@ -1,6 +1,8 @@
 // The first stage of the planner for insert, delete and move: it takes the target's rules in order, and each rule joins the front of the running
 // list or waits there. A command is put into the field as it is done on the running list, whose places it names.
 
+#![tactic(auto)]
+
 ghost use Rattle.std.specs.Prelude.{◌≡◌, true, ◌+◌, ◌*◌, ◌≤◌, ◌<◌, eqb, length, drop, set, replicate};
 ghost use Rattle.std.proofs.Math.Option.{some};
 ghost use Rattle.std.proofs.lemmas.List.Edits.{sets};
@@ -21,7 +23,7 @@ use running::Running;
 
 // The running list in the first stage: its first `front` rules are the front, the settled ones of them are marked by their numbers, and so
 // many commands are sent.
-#[derive(Drop)]
+#[derive(Clone, Copy)]
 pub struct Stage {
     pub list: Running,
     pub front: usize,

@@ -1,5 +1,7 @@
 // Flows decided one after another by one policy, three bytes for each, in a lent place. Nothing is written before the room is tested.
 
+#![tactic(auto)]
+
 ghost use Rattle.std.specs.Prelude.{◌≡◌, map, ◌*◌, ◌/◌, ◌≤◌, ◌<◌, length};
 ghost use Rattle.policy.specs.Policy.{under, decide, matching};
 ghost use Rattle.deployment.specs.Values.{action_number, numbers_of};

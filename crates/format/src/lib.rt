@@ -1,6 +1,8 @@
 // The format in code: its tags and sizes, and its leaves, which read numbers, lists and records from bytes and store bytes in a place. Each
 // answers for every slice and every place in it. The commands of a script are read and written by crate `commands`.
 
+#![tactic(auto)]
+
 ghost use Rattle.std.specs.Prelude.{◌≡◌, [], ◌∷◌, ◌+◌, leb, length, get_or, take};
 ghost use Rattle.std.proofs.lemmas.List.Edits.{sets};
 ghost use Rattle.policy.specs.Policy.{most_rules};

@@ -1,5 +1,7 @@
 // `fromiptables`: the deployment file of the iptables listing on standard input.
 
+#![tactic(auto)]
+
 use iptables_reader::{MOST_FILE, from_iptables};
 use streams::{Input, first, print_answer, print_unreadable, print_whole, read_input};
 

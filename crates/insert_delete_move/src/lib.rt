@@ -1,6 +1,8 @@
 // The script for insert, delete and move: the rules that are kept, then the two stages one after the other, each in a crate of its own, then the
 // field's way into the lent place.
 
+#![tactic(auto)]
+
 ghost use Rattle.std.specs.Prelude.{◌≡◌, ◌≤◌, length};
 ghost use Rattle.policy.specs.InsertDeleteMove.{own_choice};
 ghost use Rattle.policy.specs.Claims.{Admitted, Accepted};

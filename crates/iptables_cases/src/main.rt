@@ -1,6 +1,8 @@
 // Brings in listings and prints each whole answer. Each argument names a listing. What is written is printed as it is; then the same call is lent one byte
 // too little. Each line of a call ends by whether all other bytes are as they were.
 
+#![tactic(auto)]
+
 use cases::{filled, print_answer, read_argument};
 use deployment::Written;
 use iptables_reader::from_iptables;

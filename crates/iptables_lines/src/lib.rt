@@ -1,5 +1,7 @@
 // A line of the `*filter` part of a listing: what it is, and the record of its rule. What lines mean stands in `iptables`.
 
+#![tactic(auto)]
+
 ghost use Rattle.std.specs.Prelude.{◌≡◌, ◌∷◌};
 ghost use Rattle.lines.specs.Text.{text};
 ghost use Rattle.iptables.specs.Words.{blank, colon, parted, starts_with, is_name};
@@ -31,7 +33,7 @@ const CLOSING: u8 = b']';
 const QUOTE: u8 = b'"';
 
 // What a line is, or why it is turned away.
-#[derive(Drop)]
+#[derive(Clone, Copy)]
 pub enum Line {
     Opens,
     Closes,
@@ -42,7 +44,7 @@ pub enum Line {
 }
 
 // A line, and the record of its rule; of another line, that of no rule.
-#[derive(Drop)]
+#[derive(Clone, Copy)]
 pub struct LineRead {
     pub line: Line,
     pub bytes: [u8; RULE_BYTES],

@@ -1,6 +1,8 @@
 // Saved iptables rules, brought in: from a listing to a deployment file with its FORWARD list as both policies. What a listing means stands in
 // `iptables`. The listing is gone through once, and where each different rule stands is kept; nothing is written before all has passed.
 
+#![tactic(auto)]
+
 ghost use Rattle.std.specs.Prelude.{ℕ, ◌+◌, ◌≤◌, ◌≡◌, true, List, length, drop};
 ghost use Rattle.policy.specs.Policy.{most_rules};
 ghost use Rattle.deployment.specs.FieldValues.{left_by};
@@ -30,7 +32,7 @@ pub const MOST_FILE: usize = 17418;
 
 // What the lines so far have: whether the next one stands in the `*filter` part, how many `:FORWARD` lines there are, counted to 2, whether the last of
 // them permits, and how many different rules, counted to 1,025.
-#[derive(Drop)]
+#[derive(Clone, Copy)]
 struct Seen {
     inside: bool,
     defaults: u8,
@@ -39,14 +41,14 @@ struct Seen {
 }
 
 // What is seen with one line more, or why the line is turned away.
-#[derive(Drop)]
+#[derive(Clone, Copy)]
 struct Step {
     checking: Checking,
     seen: Seen,
 }
 
 // What all lines have, or the refusal.
-#[derive(Drop)]
+#[derive(Clone, Copy)]
 enum Gathered {
     Is(Seen),
     Turned(Refusal),

@@ -1,5 +1,7 @@
 // A rule line of a listing: its options, each found by its name, and the record of its rule. What they mean stands in `iptables`.
 
+#![tactic(auto)]
+
 ghost use Rattle.std.specs.Prelude.{◌≡◌, ◌&&◌, ◌∷◌, ◌++◌, ◌≤◌, ◌<◌, length};
 ghost use Rattle.policy.specs.Lists.{all};
 ghost use Rattle.deployment.specs.Checked.{bad};
@@ -45,7 +47,7 @@ use policy::Action;
 const BLANK: u8 = b' ';
 
 // How often an option is given, at most counted to 2; how many options stand in front of its first place; and where its first word stands.
-#[derive(Drop)]
+#[derive(Clone, Copy)]
 struct Found {
     times: u8,
     place: usize,
@@ -54,14 +56,14 @@ struct Found {
 }
 
 // "`-j ACCEPT` or `-j DROP`", or that the word is none of them.
-#[derive(Drop)]
+#[derive(Clone, Copy)]
 pub enum Target {
     Is(Action),
     Not,
 }
 
 // A low and a high, if they are read.
-#[derive(Drop)]
+#[derive(Clone, Copy)]
 struct Bounds {
     read: bool,
     low: usize,
@@ -69,7 +71,7 @@ struct Bounds {
 }
 
 // Whether a rule line is read, and the record of its rule.
-#[derive(Drop)]
+#[derive(Clone, Copy)]
 pub struct RuleRead {
     pub checking: Checking,
     pub bytes: [u8; RULE_BYTES],

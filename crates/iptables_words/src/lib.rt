@@ -1,5 +1,7 @@
 // The words of a listing: where a piece ends, numbers in their bounds, addresses, ports and protocols. What each means stands in `iptables`.
 
+#![tactic(auto)]
+
 ghost use Rattle.std.specs.Prelude.{◌+◌, ◌≤◌, ◌^◌, ◌-◌, ◌≡◌, length, drop};
 ghost use Rattle.deployment.specs.Checked.{good};
 ghost use Rattle.iptables.specs.Words.{cut_at, pieces_behind, number_in, dotted, mask_of, address_of, ports_of, protocol_of, meant, full, slash};
@@ -34,7 +36,7 @@ const UDP: usize = 17;
 const ICMP: usize = 1;
 
 // A low and a high, or that the word isn't read.
-#[derive(Drop)]
+#[derive(Clone, Copy)]
 pub enum Ranged {
     Is(usize, usize),
     Not,

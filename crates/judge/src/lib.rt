@@ -1,5 +1,7 @@
 // The judge of scripts: replay from the initial policy, and the ordering rule on every list of the way.
 
+#![tactic(auto)]
+
 ghost use Rattle.std.specs.Prelude.{◌≡◌, ◌≤◌};
 ghost use Rattle.policy.specs.Judge.{verdict};
 ghost use Rattle.deployment.specs.Values.{numbers_of, script_of};
@@ -20,7 +22,7 @@ use replay::Replaying;
 use running::Refusing;
 
 // What the judge answers: the verdict, or why the input is turned away.
-#[derive(Drop)]
+#[derive(Clone, Copy)]
 pub enum Judged {
     Said(Verdict),
     Turned(Refusal),

@@ -1,5 +1,7 @@
 // `judgelist`: the verdict on the script in the deployment file on standard input.
 
+#![tactic(auto)]
+
 use listing::judge_text;
 use streams::{Input, first, print, print_unreadable, read_input};
 

@@ -1,5 +1,7 @@
 // A replay whose last list is written, as a list value, into a lent place. Nothing is written before the room is tested.
 
+#![tactic(auto)]
+
 ghost use Rattle.std.specs.Prelude.{◌≡◌, min};
 ghost use Rattle.policy.specs.Policy.{most_rules};
 ghost use Rattle.policy.specs.Replay.{ended};
@@ -16,7 +18,7 @@ use running::Running;
 
 // How a replay whose last list is written ends: the bytes of that list; the fault of a command that fails and its step; or why it is turned
 // away.
-#[derive(Drop)]
+#[derive(Clone, Copy)]
 pub enum Ran {
     Ended(usize),
     Broken(Fault, usize),

@@ -30,7 +30,7 @@ fn put_why(place: &mut [u8], why: Why, at: usize) -> usize
 }
 
 // The first `count` of the numbers.
-#[derive(Drop)]
+#[derive(Clone, Copy)]
 struct Values {
     count: usize,
     numbers: [usize; 3],

@@ -9,7 +9,7 @@ use console::{Maker, in_words};
 use policy::Command;
 
 // The fixed words of a command: the first bytes of `name`, and, if it has two numbers, the first bytes of `between`.
-#[derive(Drop)]
+#[derive(Clone, Copy)]
 pub struct Phrase {
     pub name: [u8; 5],
     pub name_bytes: usize,

@@ -1,5 +1,7 @@
 // The whole text that the programs print, built in a lent place from the bytes of a file. What is printed is in specs/Text.antt.
 
+#![tactic(auto)]
+
 ghost use Rattle.std.specs.Prelude.{◌≡◌, List, length};
 ghost use Rattle.deployment.specs.Contents.{Contents};
 ghost use Rattle.deployment.specs.File.{accepted, read_file};

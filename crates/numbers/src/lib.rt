@@ -1,6 +1,8 @@
 // The table's numbers in code: of why a command fails, and of why bytes are turned away. The tables of the definitions are `fault_number` of
 // crate `policy` and `why_number` of crate `deployment`; the other verdicts' numbers are constants of `Verdict`.
 
+#![tactic(auto)]
+
 ghost use Rattle.std.specs.Prelude.{◌≡◌};
 ghost use Rattle.policy.specs.Command.{fault_number};
 ghost use Rattle.deployment.specs.Checked.{why_number};

@@ -1,5 +1,7 @@
 // Numbers in decimal digits, read from a text at a position and as a whole word. What a number is stands in specs/Numerals.antt.
 
+#![tactic(auto)]
+
 ghost use Rattle.std.specs.Prelude.{◌+◌, ◌*◌, ◌-◌, ◌≤◌, ◌≡◌, true, length, drop};
 ghost use Rattle.numerals.specs.Numerals.{is_digit, goes_on, numeral_read, number_of};
 ghost use Rattle.numerals.specs.Found.{most_held, held, Left, NumberFound, whole_held};
@@ -12,21 +14,21 @@ const NINE: u8 = b'9';
 const MOST_HELD: usize = 65537;
 
 // A number and the position behind it, or that none is there.
-#[derive(Drop)]
+#[derive(Clone, Copy)]
 pub enum Number {
     Is(usize, usize),
     Not,
 }
 
 // The number that a whole word is, or that it is none.
-#[derive(Drop)]
+#[derive(Clone, Copy)]
 pub enum Whole {
     Is(usize),
     Not,
 }
 
 // The number that digits make, and the position behind them.
-#[derive(Drop)]
+#[derive(Clone, Copy)]
 struct Digits {
     value: usize,
     end: usize,

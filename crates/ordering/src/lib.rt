@@ -1,6 +1,8 @@
 // The ordering rule on one running list: whether it is ordered, at which place first not, and whether it is full. The list comes with its side
 // array, so that where a policy's rule stands in it is known at once.
 
+#![tactic(auto)]
+
 ghost use Rattle.std.specs.Prelude.{◌≡◌, true, false, cond, ◌||◌, ◌+◌, ◌≤◌};
 ghost use Rattle.std.proofs.Math.Option.{some};
 ghost use Rattle.policy.specs.Judge.{ordered, full, first_unsupported};

@@ -2,6 +2,8 @@
 // other filters (listings.rt).
 // Each returns 0 or document 01's number and stores the values that belong to it in `answer`. None has a `requires`.
 
+#![tactic(auto)]
+
 mod files;
 mod listings;
 mod lists;

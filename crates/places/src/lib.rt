@@ -1,6 +1,8 @@
 // The side array of a running list, which says at once where a rule stands in it.
 // Each function's promise is its `ensures`, in the words of specs/Places.antt; none has a `requires`.
 
+#![tactic(auto)]
+
 ghost use Rattle.std.specs.Prelude.{◌≡◌, suc, drop, get_or, set, replicate};
 ghost use Rattle.policy.specs.Policy.{most_rules};
 ghost use Rattle.running.specs.Running.{view};
@@ -10,7 +12,7 @@ use policy::MOST_RULES;
 use running::Running;
 
 // For each rule number below 1,024 its place, 0 if the rule is absent.
-#[derive(Drop)]
+#[derive(Clone, Copy)]
 pub struct Places {
     pub of: [u16; MOST_RULES],
 }

@@ -1,5 +1,7 @@
 // `planlist`: both plans for the deployment file on standard input.
 
+#![tactic(auto)]
+
 use listing::plan_text;
 use streams::{Input, first, print, print_unreadable, read_input};
 

@@ -1,5 +1,7 @@
 // What both planners share: the answer of a planner, and its way into the lent place. `field` has the script field under way.
 
+#![tactic(auto)]
+
 ghost use Rattle.std.specs.Prelude.{◌≡◌};
 ghost use Rattle.plans.specs.Plans.{sent_plan};
 ghost use Rattle.deployment.specs.FieldValues.{left_by};
@@ -10,14 +12,14 @@ use format::store;
 pub mod field;
 
 // What a planner has written.
-#[derive(Drop)]
+#[derive(Clone, Copy)]
 pub struct Plan {
     pub kept: usize,
     pub commands: usize,
     pub bytes: usize,
 }
 
-#[derive(Drop)]
+#[derive(Clone, Copy)]
 pub enum Planned {
     Done(Plan),
     Turned(Refusal),

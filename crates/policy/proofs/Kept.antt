@@ -55,7 +55,7 @@ greedy_kept left ts chosen t r d once there sub others h =
     λ a b p. rw at (precedes_right a b (before t left) (t ∷ past) (inr p)) in
     ⊎_elim
     (λ e. rw e (
-      λ k. (there, λ x i p. absurd (once (⊎_elim (λ q. q.1) (λ q. precedes_in_right x t ts q) p))),
+      λ k. (there, λ x i p. absurd (once (⊎_elim (λ q. q.1) (λ q. Memᴰ.cast (sym e) (precedes_in_right x r ts q)) p))),
       λ k. Memᴰ.head refl,
     ))
     (λ later. let all = others r later in (

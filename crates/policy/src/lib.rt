@@ -1,18 +1,20 @@
 // The words of document 01 that carry values: flows, decisions, commands, faults, verdicts.
 // What the words mean is in specs/, and every crate above uses these types.
 
+#![tactic(auto)]
+
 // "at most 1,024 rules in the catalogue"; a running list has no more, "since its rules differ"
 pub const MOST_RULES: usize = 1024;
 
 // What a rule says, and what a flow gets.
-#[derive(Drop)]
+#[derive(Clone, Copy)]
 pub enum Action {
     Deny,
     Permit,
 }
 
 // "A flow is five numbers."
-#[derive(Drop)]
+#[derive(Clone, Copy)]
 pub struct Flow {
     pub protocol: u8,
     pub source: u32,
@@ -22,14 +24,14 @@ pub struct Flow {
 }
 
 // "The answer is the action and the place of that rule, places counted from 1, or place 0 for the default."
-#[derive(Drop)]
+#[derive(Clone, Copy)]
 pub struct Decision {
     pub action: Action,
     pub place: usize,
 }
 
 // "Each command is an enum case with its own numbers": `app r`, `del r`, `ins i r`, `del i`, `mov i j`.
-#[derive(Drop)]
+#[derive(Clone, Copy)]
 pub enum Command {
     App(u16),
     DelRule(u16),
@@ -56,7 +58,7 @@ impl Command {
 }
 
 // Why a command fails: numbers 20 to 23.
-#[derive(Drop)]
+#[derive(Clone, Copy)]
 pub enum Fault {
     Present,
     Absent,
@@ -65,7 +67,7 @@ pub enum Fault {
 }
 
 // What the judge says: numbers 20 to 24, 30, 31 and 32.
-#[derive(Drop)]
+#[derive(Clone, Copy)]
 pub enum Verdict {
     Broken(Fault, usize),
     Elsewhere(usize),

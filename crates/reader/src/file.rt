@@ -27,14 +27,14 @@ use values::{
 };
 
 // A field's head, or why the field is turned away.
-#[derive(Drop)]
+#[derive(Clone, Copy)]
 enum Head {
     Field(u8, usize),
     Bad(Why),
 }
 
 // What has been read: the position, the tag of the last field (that of a rule at the start), and where the values stand.
-#[derive(Drop)]
+#[derive(Clone, Copy)]
 struct Progress {
     at: usize,
     last: u8,
@@ -42,7 +42,7 @@ struct Progress {
 }
 
 // One field: what has been read then, or why it is turned away.
-#[derive(Drop)]
+#[derive(Clone, Copy)]
 enum Step {
     Next(Progress),
     Bad(Why),

@@ -1,5 +1,8 @@
 // Reads rows of cases and prints what the reader answers to each: its refusal, or where its values stand.
 // Each argument names a file with one row; a case is a file.
+
+#![tactic(auto)]
+
 use cases::{bytes_at, next_place, print_reading, read_argument};
 use reader::file::read;
 

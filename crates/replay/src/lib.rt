@@ -1,5 +1,7 @@
 // Replay of both editing languages: one command after another on a running list, with a side array that says where each rule stands.
 
+#![tactic(auto)]
+
 ghost use Rattle.std.specs.Prelude.{◌≡◌, ℕ, ◌-◌, replicate};
 ghost use Rattle.policy.specs.Policy.{most_rules};
 ghost use Rattle.policy.specs.Command.{rule_at};
@@ -21,21 +23,21 @@ use running::{Edited, Refusing, Running};
 use values::{policy_checked, script_checked};
 
 // A running list and its side array.
-#[derive(Drop)]
+#[derive(Clone, Copy)]
 pub struct Replaying {
     pub list: Running,
     pub places: Places,
 }
 
 // The state after a command, and the refusal, if any.
-#[derive(Drop)]
+#[derive(Clone, Copy)]
 pub struct Stepped {
     pub state: Replaying,
     pub refusal: Refusing,
 }
 
 // How a replay ends.
-#[derive(Drop)]
+#[derive(Clone, Copy)]
 pub enum Ending {
     Ended,
     Broken(Fault, usize),
@@ -43,7 +45,7 @@ pub enum Ending {
 }
 
 // The last list, empty unless the script ends, and how it ends.
-#[derive(Drop)]
+#[derive(Clone, Copy)]
 pub struct Replayed {
     pub list: Running,
     pub ending: Ending,

@@ -1,6 +1,8 @@
 // The running list that scripts edit. Each method's promise is its `ensures`, in the words of specs/Running.antt and specs/Naming.antt;
 // none has a `requires`.
 
+#![tactic(auto)]
+
 ghost use Rattle.std.specs.Prelude.{◌≡◌, true, not, [], ◌∷◌, ◌++◌, suc, min, ◌-◌, ◌<◌, ◌≤◌, ltb, length, take, drop};
 ghost use Rattle.policy.specs.Policy.{most_rules};
 ghost use Rattle.policy.specs.Command.{within, passed, failed};
@@ -11,21 +13,21 @@ ghost use Rattle.running.specs.Naming.{named};
 use policy::{Fault, MOST_RULES};
 
 // "A struct by value with an array of 1,024 rule numbers and a length is the running list in replay and planning."
-#[derive(Drop)]
+#[derive(Clone, Copy)]
 pub struct Running {
     pub rules: [u16; MOST_RULES],
     pub len: usize,
 }
 
 // The refusal, if any.
-#[derive(Drop)]
+#[derive(Clone, Copy)]
 pub enum Refusing {
     Nothing,
     Failed(Fault),
 }
 
 // "each gives a struct of the list and, beside it, the refusal if any"
-#[derive(Drop)]
+#[derive(Clone, Copy)]
 pub struct Edited {
     pub list: Running,
     pub refusal: Refusing,
@@ -217,7 +219,7 @@ impl Running {
 }
 
 // How a list names rules: one outside the catalogue, one twice, or each once.
-#[derive(Drop)]
+#[derive(Clone, Copy)]
 pub enum Naming {
     Outside,
     Twice,

@@ -1,5 +1,7 @@
 // `scripttext MAKER WHAT`: a script as text for a maker's console, of the deployment file on standard input.
 
+#![tactic(auto)]
+
 use asked::{MakerAsked, WhatAsked, maker_asked, what_asked};
 use console::Maker;
 use console_writer::MOST_TEXT;

@@ -1,6 +1,8 @@
 // The second stage of the planner for insert, delete and move: it takes the rules that wait, from last place to first, and settles each. A command
 // is put into the field as it is done on the running list, whose places it names.
 
+#![tactic(auto)]
+
 ghost use Rattle.std.specs.Prelude.{◌≡◌, ℕ, ◌+◌, ◌≤◌, ◌<◌, ltb, length, drop, get_or};
 ghost use Rattle.policy.specs.InsertDeleteMove.{second_stage};
 ghost use Rattle.policy.specs.Claims.{Admitted};

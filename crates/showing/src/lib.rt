@@ -1,5 +1,7 @@
 // The whole text of a deployment file, built in a lent place from the bytes of the file. What is printed is in specs/Text.antt.
 
+#![tactic(auto)]
+
 ghost use Rattle.std.specs.Prelude.{◌≡◌};
 ghost use Rattle.deployment.specs.FieldValues.{left_by, writing};
 ghost use Rattle.lines.specs.Printing.{Whole, Needed};

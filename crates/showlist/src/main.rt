@@ -1,5 +1,7 @@
 // `showlist`: what the deployment file on standard input contains, as text to read.
 
+#![tactic(auto)]
+
 use showing::{MOST_SHOWN, show_text};
 use streams::{Input, first, print, print_unreadable, read_input};
 

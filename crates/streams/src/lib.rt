@@ -1,5 +1,7 @@
 // Standard input read whole, and text printed: what the programs do with descriptors, and nothing else.
 
+#![tactic(auto)]
+
 ghost use Rattle.std.specs.Prelude.{◌≡◌, length, take};
 ghost use Rattle.streams.specs.Reading.{Fitting, Within, piece_of, next_of};
 
@@ -8,14 +10,14 @@ use libc::{STDERR_FILENO, STDIN_FILENO, STDOUT_FILENO};
 use lines::outcomes::put_refused;
 
 // How many bytes came in, or that reading failed.
-#[derive(Drop)]
+#[derive(Clone, Copy)]
 pub enum Input {
     Bytes(usize),
     Unreadable,
 }
 
 // What one read tells: so many bytes came, the input has ended, or the read failed (also one that a signal interrupts).
-#[derive(Drop)]
+#[derive(Clone, Copy)]
 enum Piece {
     Bytes(usize),
     End,
@@ -23,7 +25,7 @@ enum Piece {
 }
 
 // What a piece means for the reading: so many bytes more and another read, or that it is over with this answer.
-#[derive(Drop)]
+#[derive(Clone, Copy)]
 enum Next {
     More(usize),
     Over(Input),

@@ -1,5 +1,7 @@
 // `textscript MAKER TYPE`: the script field of the console text on standard input.
 
+#![tactic(auto)]
+
 use asked::{MakerAsked, WhatAsked, maker_asked, what_asked};
 use console::Maker;
 use console_reader::{MOST_FIELD, text_script};

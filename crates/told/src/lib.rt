@@ -1,6 +1,8 @@
 // What a caller is told: each answer of the entries as a number, which is returned, and the values that belong to it, which are stored in the first words
 // of a lent answer; those that have no room there are left out. No function has a `requires`.
 
+#![tactic(auto)]
+
 ghost use Rattle.std.specs.Prelude.{◌≡◌, [], ◌∷◌};
 ghost use Rattle.std.proofs.lemmas.List.Edits.{sets};
 ghost use Rattle.policy.specs.Command.{fault_number};

@@ -1,6 +1,8 @@
 // Tests of field values: policies, defaults, keep lists, scripts (here), and all values of a deployment one after another (lists.rt). Entries that take
 // lists and the file reader share them.
 
+#![tactic(auto)]
+
 ghost use Rattle.std.specs.Prelude.{◌≡◌, min};
 ghost use Rattle.std.proofs.Math.Option.{some};
 ghost use Rattle.policy.specs.Policy.{most_rules};

@@ -1,5 +1,7 @@
 // Prints, for each file that an argument names, its name and what `planlist`, `judgelist` and `showlist` print for it.
 
+#![tactic(auto)]
+
 use cases::read_argument;
 use listing::{judge_text, plan_text};
 use showing::{MOST_SHOWN, show_text};

@@ -1,6 +1,8 @@
 // The writer of the deployment file: from field values that are accepted to a file in a lent place. Nothing is written before the room is
 // tested; values are tested by the crate `entries`.
 
+#![tactic(auto)]
+
 ghost use Rattle.std.specs.Prelude.{◌≡◌, ◌+◌, ◌*◌, ◌/◌, ◌≤◌, ◌<◌, length};
 ghost use Rattle.deployment.specs.File.{field_bytes};
 ghost use Rattle.deployment.specs.FieldValues.{left_by, writing, Stored};

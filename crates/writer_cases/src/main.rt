@@ -2,6 +2,8 @@
 // how they are read back; and whether every other byte is as it was. Each argument names a file with one row. A case: two bytes for the
 // size of the place, one that fills it, three that say whether there is a default, a keep list and a script; then the six values, a row.
 
+#![tactic(auto)]
+
 ghost use Rattle.std.specs.Prelude.{◌≤◌, length};
 
 use cases::{
