@@ -14,7 +14,7 @@ OWN = {line.split(":")[0].split()[0] for line in open("crates.txt") if line.stri
 TOKEN = re.compile(r"[^\s(){}\[\];,.:\"`]+")
 DECLARED = re.compile(r"^(\s*)((?:pub |unfoldable |abbrev )*)([^\s:()←→{}]+)(?: *(?:[({].*)?)? :(?: |$)")
 LET = re.compile(r"\blet ([^\s:()={}]+)(?= [:=])")
-USE = re.compile(r"^(?:ghost )?(?:pub )?use ([^\s{;]+?)(?:\.?\{([^}]*)\})?(?: as (\S+?))?;?$")
+USE = re.compile(r"^(?:ghost )?(?:pub )?use ([^\s{;]+?)(?:\.\{([^}]*)\}| as \S+?)?;?[ \t]*$", re.M)
 
 
 def antt_files():
@@ -76,10 +76,7 @@ def spelling(names):
 def imports(text):
     """Names that a file imports from its own repository, and those from elsewhere."""
     own, foreign = set(), set()
-    for line in text.split("\n"):
-        m = USE.match(line.strip())
-        if not m:
-            continue
+    for m in USE.finditer(text):
         parts = m.group(1).split(".")
         listed = {n.strip().split(" as ")[0] for n in (m.group(2) or "").split(",") if n.strip()}
         is_own = parts[0] == "Rattle" and len(parts) > 1 and parts[1] in OWN

@@ -27,30 +27,30 @@ use Rattle.deployment.specs.Checked.{Checked, good, bad, ◌>>=◌}
 use Rattle.deployment.specs.Bytes.{chunks, joined}
 use Rattle.deployment.specs.Values.{
   Script,
-  rule-bytes,
-  default-bytes,
-  ruleBytes,
-  numbersOf,
-  numbersBytes,
-  defaultBytes,
-  defaultField,
-  scriptBytes,
-  listFits,
-  scriptFits,
+  rule_bytes_lem,
+  default_bytes_lem,
+  rule_bytes,
+  numbers_of,
+  numbers_bytes,
+  default_bytes,
+  default_field,
+  script_bytes,
+  list_fits,
+  script_fits,
 }
 use Rattle.deployment.specs.Contents.{Contents, rule_read, keep_read, script_read}
 use Rattle.deployment.specs.File.{accepted}
 use Rattle.deployment.specs.FieldValues.{
   FieldValues,
-  rulesRead,
-  catalogueValue,
-  policyValue,
-  defaultValue,
-  keepValue,
-  scriptValue,
-  valuesRead,
-  atZero,
-  readValues,
+  rules_read,
+  catalogue_value,
+  policy_value,
+  default_value,
+  keep_value,
+  script_value,
+  values_read,
+  at_zero,
+  read_values,
 }
 use Rattle.deployment.specs.Properties.{
   AreBytes,
@@ -68,15 +68,15 @@ use Rattle.deployment.proofs.Bytes.{length_chunks, chunk_length, joined_chunks, 
 use Rattle.deployment.proofs.Values.{rule_recordable, rule_written, numbers_count, numbers_written, default_written}
 use Rattle.deployment.proofs.Scripts.{script_scripted, script_written}
 use Rattle.deployment.proofs.Tests.{
-  says-list,
-  says-script,
+  says_list,
+  says_script,
   Each,
-  each-then,
+  each_then,
   tested,
-  rule-tested,
-  default-tested,
-  keep-tested,
-  script-tested,
+  rule_tested,
+  default_tested,
+  keep_tested,
+  script_tested,
 }
 use Rattle.deployment.proofs.Fields.{joined_snoc, map_snoc, catalogue_snoc}
 use Rattle.deployment.proofs.RefusedValues.{each_map, policy_right}
@@ -87,37 +87,37 @@ Good P = Each P (λ why. Unit {0})
 
 pub good_then : {A B : Type 0} (P : A → Type 0) (R : B → Type 0) (read : Checked A) (next : A → Checked B)
     → Good P read → ((a : A) → P a → Good R (next a)) → Good R (◌>>=◌ read next)
-good_then P R = each-then P R (λ why. Unit {0})
+good_then P R = each_then P R (λ why. Unit {0})
 
 -- Each value, and what is read of it.
 abbrev IsRule : List Rule → List ℕ → Rule → Type 0
-IsRule done value rule = Recordable rule × ¬ Memᴰ rule done × (ruleBytes rule ≡ value)
+IsRule done value rule = Recordable rule × ¬ Memᴰ rule done × (rule_bytes rule ≡ value)
 
 abbrev IsCatalogue : List ℕ → List Rule → Type 0
-IsCatalogue value c = Catalogue c × (joined (map ruleBytes c) ≡ value)
+IsCatalogue value c = Catalogue c × (joined (map rule_bytes c) ≡ value)
 
 abbrev IsPolicy : ℕ → List ℕ → List ℕ → Type 0
-IsPolicy size value policy = Listed size policy × (numbersBytes policy ≡ value)
+IsPolicy size value policy = Listed size policy × (numbers_bytes policy ≡ value)
 
 abbrev IsDefault : Option (List ℕ) → Action → Type 0
-IsDefault value action = elim (defaultField action) [ none ↦ none | some default ↦ some (defaultBytes default) ] ≡ value
+IsDefault value action = elim (default_field action) [ none ↦ none | some default ↦ some (default_bytes default) ] ≡ value
 
 abbrev IsKeep : List ℕ → List ℕ → Option (List ℕ) → Option (List ℕ) → Type 0
-IsKeep i t value keep = Keepable i t keep × (elim keep [ none ↦ none | some keep ↦ some (numbersBytes keep) ] ≡ value)
+IsKeep i t value keep = Keepable i t keep × (elim keep [ none ↦ none | some keep ↦ some (numbers_bytes keep) ] ≡ value)
 
 abbrev IsScript : Option (List ℕ) → Option Script → Type 0
-IsScript value script = IfThere Scripted script × (elim script [ none ↦ none | some script ↦ some (scriptBytes script) ] ≡ value)
+IsScript value script = IfThere Scripted script × (elim script [ none ↦ none | some script ↦ some (script_bytes script) ] ≡ value)
 
 rules_good : (done : List Rule) (pieces : List (List ℕ)) (value : List ℕ)
     → Catalogue done → length done + length pieces ≤ most_rules
-    → ((piece : List ℕ) → Memᴰ piece pieces → AreBytes piece × (length piece ≡ rule-bytes))
-    → joined (map ruleBytes done) ++ joined pieces ≡ value → Good (IsCatalogue value) (rulesRead done pieces)
-unfolding rulesRead joined
-rules_good done [] value h few each e = (h, sym (append-nil (joined (map ruleBytes done))) ∙ e)
+    → ((piece : List ℕ) → Memᴰ piece pieces → AreBytes piece × (length piece ≡ rule_bytes_lem))
+    → joined (map rule_bytes done) ++ joined pieces ≡ value → Good (IsCatalogue value) (rules_read done pieces)
+unfolding rules_read joined
+rules_good done [] value h few each e = (h, sym (append-nil (joined (map rule_bytes done))) ∙ e)
 rules_good done (piece ∷ pieces) value h few each e =
     let at = each piece (Memᴰ.head refl) in
     good_then (IsRule done piece) (IsCatalogue value) (rule_read done piece) _
-    (rule-tested (Good (IsRule done piece)) done piece (λ wrong. tt) (λ fits known. tt)
+    (rule_tested (Good (IsRule done piece)) done piece (λ wrong. tt) (λ fits known. tt)
     (λ fits new. (rule_recordable piece at.0 at.1 fits, new, rule_written piece at.0 at.1 fits)))
     λ rule is.
     rules_good (done ++ (rule ∷ [])) pieces value (catalogue_snoc done rule h (omega arith) is.0 is.1)
@@ -125,59 +125,59 @@ rules_good done (piece ∷ pieces) value h few each e =
     (λ other t. each other (Memᴰ.tail t))
     (simp (map_snoc, joined_snoc, append_assoc, is.2) e)
 
-catalogue_good : (value : List ℕ) → AreBytes value → Good (IsCatalogue value) (catalogueValue value)
-unfolding catalogueValue joined
+catalogue_good : (value : List ℕ) → AreBytes value → Good (IsCatalogue value) (catalogue_value value)
+unfolding catalogue_value joined
 catalogue_good value b =
-    let count = length value / rule-bytes in
-    tested (Good (IsCatalogue value)) (eqb (length value % rule-bytes) 0) (λ e. tt) λ e.
-    tested (Good (IsCatalogue value)) (leb (length value) (rule-bytes * most_rules)) (λ e. tt) λ f.
-    let long : length value ≡ rule-bytes * count = omega (arith, eqb-true (length value % rule-bytes) 0 e) in
-    let few : length value ≤ rule-bytes * most_rules = leb-true (length value) (rule-bytes * most_rules) f in
-    rules_good [] (chunks rule-bytes count value) value
+    let count = length value / rule_bytes_lem in
+    tested (Good (IsCatalogue value)) (eqb (length value % rule_bytes_lem) 0) (λ e. tt) λ e.
+    tested (Good (IsCatalogue value)) (leb (length value) (rule_bytes_lem * most_rules)) (λ e. tt) λ f.
+    let long : length value ≡ rule_bytes_lem * count = omega (arith, eqb-true (length value % rule_bytes_lem) 0 e) in
+    let few : length value ≤ rule_bytes_lem * most_rules = leb-true (length value) (rule_bytes_lem * most_rules) f in
+    rules_good [] (chunks rule_bytes_lem count value) value
     (record { few = zero-le; recordable = λ rule h. absurd (Memᴰ.not-nil h); unlike = tt })
-    (omega (arith, length_chunks rule-bytes count value))
-    (λ piece t. (are_bytes_chunk rule-bytes count value b piece t, chunk_length rule-bytes count value long piece t))
-    (joined_chunks rule-bytes count value long)
+    (omega (arith, length_chunks rule_bytes_lem count value))
+    (λ piece t. (are_bytes_chunk rule_bytes_lem count value b piece t, chunk_length rule_bytes_lem count value long piece t))
+    (joined_chunks rule_bytes_lem count value long)
 
-policy_good : (size : ℕ) (value : List ℕ) → AreBytes value → Good (IsPolicy size value) (policyValue size value)
+policy_good : (size : ℕ) (value : List ℕ) → AreBytes value → Good (IsPolicy size value) (policy_value size value)
 policy_good size value b =
-    each_map (λ p. PolicyRight size value × (p ≡ numbersOf value)) (IsPolicy size value) (PolicyFails size value) (λ n. Unit {0})
-    (policyValue size value)
+    each_map (λ p. PolicyRight size value × (p ≡ numbers_of value)) (IsPolicy size value) (PolicyFails size value) (λ n. Unit {0})
+    (policy_value size value)
     (λ p ((right, sound), is).
     rw is (
       record { few = rw (numbers_count value right.0 right.1) right.2; sound = sound },
       numbers_written value right.0 right.1 b,
     )) (λ n fails. tt) (policy_right size value)
 
-default_good : (value : Option (List ℕ)) → IfThere AreBytes value → Good (IsDefault value) (defaultValue value)
-unfolding defaultValue defaultField
+default_good : (value : Option (List ℕ)) → IfThere AreBytes value → Good (IsDefault value) (default_value value)
+unfolding default_value default_field
 default_good none b = refl
 default_good (some value) b =
-    tested (Good (IsDefault (some value))) (eqb (length value) default-bytes) (λ e. tt) λ e.
-    default-tested (Good (IsDefault (some value))) value (λ wrong. tt)
-    (λ is. ap (λ (l : List ℕ). some l) (default_written value b (eqb-true (length value) default-bytes e) is))
+    tested (Good (IsDefault (some value))) (eqb (length value) default_bytes_lem) (λ e. tt) λ e.
+    default_tested (Good (IsDefault (some value))) value (λ wrong. tt)
+    (λ is. ap (λ (l : List ℕ). some l) (default_written value b (eqb-true (length value) default_bytes_lem e) is))
 
-keep_good : (i t : List ℕ) (value : Option (List ℕ)) → IfThere AreBytes value → Good (IsKeep i t value) (keepValue i t value)
-unfolding keepValue
+keep_good : (i t : List ℕ) (value : Option (List ℕ)) → IfThere AreBytes value → Good (IsKeep i t value) (keep_value i t value)
+unfolding keep_value
 keep_good i t none b = (tt, refl)
 keep_good i t (some value) b =
-    tested (Good (IsKeep i t (some value))) (listFits (length value)) (λ e. tt) λ e.
-    let right = (says-list (length value)).0 e in
-    let Is : List ℕ → Type 0 = λ keep. Keepable i t (some keep) × (numbersBytes keep ≡ value) in
+    tested (Good (IsKeep i t (some value))) (list_fits (length value)) (λ e. tt) λ e.
+    let right = (says_list (length value)).0 e in
+    let Is : List ℕ → Type 0 = λ keep. Keepable i t (some keep) × (numbers_bytes keep ≡ value) in
     good_then Is (IsKeep i t (some value)) (keep_read i t value) _
-    (keep-tested (Good Is) i t value (λ fails. tt)
+    (keep_tested (Good Is) i t value (λ fails. tt)
     (λ initial target. ((initial, target), numbers_written value right.0 right.1 b)))
     λ keep is. (is.0, ap (λ (l : List ℕ). some l) is.1)
 
-script_good : (value : Option (List ℕ)) → IfThere AreBytes value → Good (IsScript value) (scriptValue value)
-unfolding scriptValue
+script_good : (value : Option (List ℕ)) → IfThere AreBytes value → Good (IsScript value) (script_value value)
+unfolding script_value
 script_good none b = (tt, refl)
 script_good (some value) b =
-    tested (Good (IsScript (some value))) (scriptFits (length value)) (λ e. tt) λ e.
-    let right = (says-script (length value)).0 e in
-    let Is : Script → Type 0 = λ script. Scripted script × (scriptBytes script ≡ value) in
+    tested (Good (IsScript (some value))) (script_fits (length value)) (λ e. tt) λ e.
+    let right = (says_script (length value)).0 e in
+    let Is : Script → Type 0 = λ script. Scripted script × (script_bytes script ≡ value) in
     good_then Is (IsScript (some value)) (script_read value) _
-    (script-tested (Good Is) value (λ wrong. tt)
+    (script_tested (Good Is) value (λ wrong. tt)
     (λ s read. (script_scripted value b right s read, script_written value b right s read)))
     λ script is. (is.0, ap (λ (l : List ℕ). some l) is.1)
 
@@ -185,23 +185,23 @@ script_good (some value) b =
 abbrev AreOf : FieldValues → Contents → Type 0
 AreOf v c = Valid c × (values_of c ≡ v)
 
-values_good : (v : FieldValues) → AreValues v → Good (AreOf v) (valuesRead v)
-unfolding valuesRead values_of
+values_good : (v : FieldValues) → AreValues v → Good (AreOf v) (values_read v)
+unfolding values_read values_of
 values_good v b =
-    good_then (IsCatalogue v.rules) (AreOf v) (catalogueValue v.rules) _ (catalogue_good v.rules b.rules)
+    good_then (IsCatalogue v.rules) (AreOf v) (catalogue_value v.rules) _ (catalogue_good v.rules b.rules)
     λ c rules.
     let size = length c in
-    good_then (IsPolicy size v.initial) (AreOf v) (policyValue size v.initial) _
+    good_then (IsPolicy size v.initial) (AreOf v) (policy_value size v.initial) _
     (policy_good size v.initial b.initial)
     λ i initial.
-    good_then (IsPolicy size v.target) (AreOf v) (policyValue size v.target) _
+    good_then (IsPolicy size v.target) (AreOf v) (policy_value size v.target) _
     (policy_good size v.target b.target)
     λ t target.
-    good_then (IsDefault v.default) (AreOf v) (defaultValue v.default) _ (default_good v.default b.default)
+    good_then (IsDefault v.default) (AreOf v) (default_value v.default) _ (default_good v.default b.default)
     λ d default.
-    good_then (IsKeep i t v.keep) (AreOf v) (keepValue i t v.keep) _ (keep_good i t v.keep b.keep)
+    good_then (IsKeep i t v.keep) (AreOf v) (keep_value i t v.keep) _ (keep_good i t v.keep b.keep)
     λ k keep.
-    good_then (IsScript v.script) (AreOf v) (scriptValue v.script) _ (script_good v.script b.script)
+    good_then (IsScript v.script) (AreOf v) (script_value v.script) _ (script_good v.script b.script)
     λ s script. (
       record { catalogue = rules.0; initial = initial.0; target = target.0; keep = keep.0; script = script.0 },
       λ j. record {
@@ -215,9 +215,9 @@ values_good v b =
     )
 
 pub values_written_again : ValuesWrittenAgain
-unfolding readValues atZero
-values_written_again v c b e = go (valuesRead v) (values_good v b) e
+unfolding read_values at_zero
+values_written_again v c b e = go (values_read v) (values_good v b) e
   where
-    go : (read : Checked Contents) → Good (AreOf v) read → atZero read ≡ accepted c → AreOf v c
+    go : (read : Checked Contents) → Good (AreOf v) read → at_zero read ≡ accepted c → AreOf v c
     go (good other) h e = let same : other ≡ c = cc in rw (← same) h
     go (bad why) h e = absurd (let z : ◌≡◌ {A = ℕ} 0 1 = cc in omega arith)

@@ -14,14 +14,14 @@ use Rattle.policy.specs.declared.Flow.{Flow}
 use Rattle.deployment.specs.Bytes.{number, number_from, bytes_of, part, chunks, joined}
 use Rattle.deployment.specs.Values.{action_of, action_number}
 use Rattle.deployment.specs.Flows.{
-  flow-bytes,
-  decision-bytes,
+  flow_bytes_lem,
+  decision_bytes_lem,
   flow_of,
-  flowBytes,
-  flowsOf,
-  decisionBytes,
-  decisionOf,
-  decisionsBytes,
+  flow_bytes,
+  flows_of,
+  decision_bytes,
+  decision_of,
+  decisions_bytes,
 }
 use Rattle.deployment.specs.Claims.{FlowReadsBack, DecisionReadsBack}
 use Rattle.deployment.proofs.Bytes.{length_bytes, number_bytes, length_chunks}
@@ -29,23 +29,23 @@ use Rattle.deployment.proofs.Records.{read_at}
 use Rattle.deployment.proofs.Fields.{joined_snoc, map_snoc}
 
 -- Flows.
-pub flows_length : (value : List ℕ) → length (flowsOf value) ≡ length value / flow-bytes
-unfolding flowsOf
+pub flows_length : (value : List ℕ) → length (flows_of value) ≡ length value / flow_bytes_lem
+unfolding flows_of
 flows_length value =
-    length-map (chunks flow-bytes (length value / flow-bytes) value) flow_of ∙ length_chunks flow-bytes (length value / flow-bytes) value
+    length-map (chunks flow_bytes_lem (length value / flow_bytes_lem) value) flow_of ∙ length_chunks flow_bytes_lem (length value / flow_bytes_lem) value
 
 -- what is made of the k-th
-pub made_of_flow : {A : Type 0} (f : Flow → A) (value : List ℕ) (k : ℕ) → k < length value / flow-bytes
-    → get_or (map f (flowsOf value)) k (f (flow_of [])) ≡ f (flow_of (part (flow-bytes * k) flow-bytes value))
-unfolding flowsOf
+pub made_of_flow : {A : Type 0} (f : Flow → A) (value : List ℕ) (k : ℕ) → k < length value / flow_bytes_lem
+    → get_or (map f (flows_of value)) k (f (flow_of [])) ≡ f (flow_of (part (flow_bytes_lem * k) flow_bytes_lem value))
+unfolding flows_of
 made_of_flow f value k h =
-    get_or-map f (flowsOf value) k (flow_of [])
-    ∙ ap f (read_at flow_of flow-bytes (length value / flow-bytes) value k h)
-    ∙ ap (λ (at : ℕ). f (flow_of (part at flow-bytes value))) (mul_comm k flow-bytes)
+    get_or-map f (flows_of value) k (flow_of [])
+    ∙ ap f (read_at flow_of flow_bytes_lem (length value / flow_bytes_lem) value k h)
+    ∙ ap (λ (at : ℕ). f (flow_of (part at flow_bytes_lem value))) (mul_comm k flow_bytes_lem)
 
 -- Decisions.
-pub length_decision : (d : Decision) → length (decisionBytes d) ≡ decision-bytes
-unfolding decisionBytes
+pub length_decision : (d : Decision) → length (decision_bytes d) ≡ decision_bytes_lem
+unfolding decision_bytes
 length_decision d =
     omega (
       arith,
@@ -54,15 +54,15 @@ length_decision d =
       length_bytes 2 d.place,
     )
 
-pub decisions_snoc : (l : List Decision) (d : Decision) → decisionsBytes (l ++ (d ∷ [])) ≡ decisionsBytes l ++ decisionBytes d
-unfolding decisionsBytes
-decisions_snoc l d = ap joined (map_snoc decisionBytes l d) ∙ joined_snoc (map decisionBytes l) (decisionBytes d)
+pub decisions_snoc : (l : List Decision) (d : Decision) → decisions_bytes (l ++ (d ∷ [])) ≡ decisions_bytes l ++ decision_bytes d
+unfolding decisions_bytes
+decisions_snoc l d = ap joined (map_snoc decision_bytes l d) ∙ joined_snoc (map decision_bytes l) (decision_bytes d)
 
-pub length_decisions : (l : List Decision) → length (decisionsBytes l) ≡ decision-bytes * length l
-unfolding decisionsBytes joined
+pub length_decisions : (l : List Decision) → length (decisions_bytes l) ≡ decision_bytes_lem * length l
+unfolding decisions_bytes joined
 length_decisions [] = refl
 length_decisions (d ∷ l) =
-    omega (arith, length-append (decisionBytes d) (decisionsBytes l), length_decision d, length_decisions l)
+    omega (arith, length-append (decision_bytes d) (decisions_bytes l), length_decision d, length_decisions l)
 
 -- a part that ends where the first bytes do
 pub part_in_front : (start size : ℕ) (u v : List ℕ) → start + size ≤ length u → part start size (u ++ v) ≡ part start size u
@@ -72,14 +72,14 @@ part_in_front start size u v h =
 
 -- the k-th, whatever stands behind them
 pub decision_at_lem : (l : List Decision) (rest : List ℕ) (k : ℕ) (none : Decision) → k < length l
-    → part (decision-bytes * k) decision-bytes (decisionsBytes l ++ rest) ≡ decisionBytes (get_or l k none)
-unfolding part decisionsBytes joined
+    → part (decision_bytes_lem * k) decision_bytes_lem (decisions_bytes l ++ rest) ≡ decision_bytes (get_or l k none)
+unfolding part decisions_bytes joined
 decision_at_lem [] rest k none h = absurd (omega arith)
 decision_at_lem (d ∷ l) rest zero none h =
-    rw append_assoc (take_at (decisionBytes d) (decisionsBytes l ++ rest) decision-bytes (length_decision d))
+    rw append_assoc (take_at (decision_bytes d) (decisions_bytes l ++ rest) decision_bytes_lem (length_decision d))
 decision_at_lem (d ∷ l) rest (suc k) none h =
-    let further : decision-bytes * suc k ≡ decision-bytes + decision-bytes * k = omega arith in
-    rw (further, ← drop-drop, append_assoc, drop_at (decisionBytes d) (decisionsBytes l ++ rest) decision-bytes (length_decision d))
+    let further : decision_bytes_lem * suc k ≡ decision_bytes_lem + decision_bytes_lem * k = omega arith in
+    rw (further, ← drop-drop, append_assoc, drop_at (decision_bytes d) (decisions_bytes l ++ rest) decision_bytes_lem (length_decision d))
     (decision_at_lem l rest k none (omega arith))
 
 -- Read back.
@@ -89,19 +89,19 @@ action_back Deny = refl
 action_back Permit = refl
 
 pub decision_reads_back : DecisionReadsBack
-unfolding decisionOf decisionBytes part bytes_of
+unfolding decision_of decision_bytes part bytes_of
 decision_reads_back d h =
-    let place : number (part 1 2 (decisionBytes d)) ≡ d.place = number_bytes 2 d.place h in
+    let place : number (part 1 2 (decision_bytes d)) ≡ d.place = number_bytes 2 d.place h in
     λ j. record { action = action_back d.action j; place = place j }
 
 pub flow_reads_back : FlowReadsBack
-unfolding flow_of flowBytes part bytes_of
+unfolding flow_of flow_bytes part bytes_of
 flow_reads_back f fits =
-    let protocol : number (part 0 1 (flowBytes f)) ≡ f.protocol = number_bytes 1 f.protocol fits.protocol in
-    let source : number (part 1 4 (flowBytes f)) ≡ f.source = number_bytes 4 f.source fits.source in
-    let source-port : number (part 5 2 (flowBytes f)) ≡ f.source_port = number_bytes 2 f.source_port fits.source_port in
-    let destination : number (part 7 4 (flowBytes f)) ≡ f.destination = number_bytes 4 f.destination fits.destination in
-    let destination-port : number (part 11 2 (flowBytes f)) ≡ f.destination_port =
+    let protocol : number (part 0 1 (flow_bytes f)) ≡ f.protocol = number_bytes 1 f.protocol fits.protocol in
+    let source : number (part 1 4 (flow_bytes f)) ≡ f.source = number_bytes 4 f.source fits.source in
+    let source-port : number (part 5 2 (flow_bytes f)) ≡ f.source_port = number_bytes 2 f.source_port fits.source_port in
+    let destination : number (part 7 4 (flow_bytes f)) ≡ f.destination = number_bytes 4 f.destination fits.destination in
+    let destination-port : number (part 11 2 (flow_bytes f)) ≡ f.destination_port =
     number_bytes 2 f.destination_port fits.destination_port in
     λ j.
     record {

@@ -16,7 +16,7 @@ use Rattle.deployment.specs.Bytes.{number, part}
 use Rattle.deployment.specs.File.{Fields, head_bytes, Reading, accepted, refused, read_file, needs_script, read_to_judge}
 use Rattle.deployment.specs.Properties.{
   AreBytes,
-  fieldsBytes,
+  fields_bytes,
   tag_of,
   size_of,
   value_of,
@@ -28,17 +28,17 @@ use Rattle.deployment.specs.Properties.{
   Whole,
   FieldFails,
   cut,
-  wrong-tag,
+  wrong_tag,
   no_target,
-  wrong-length,
-  wrong-bounds,
-  equal-rule,
-  rule-too-many,
-  names-outside,
-  names-twice,
-  keep-astray,
-  wrong-coding,
-  wrong-default,
+  wrong_length,
+  wrong_bounds,
+  equal_rule,
+  rule_too_many,
+  names_outside,
+  names_twice,
+  keep_astray,
+  wrong_coding,
+  wrong_default,
   TurnedAway,
 }
 use Rattle.deployment.specs.Claims.{deciding, LongFile, LongFileToJudge}
@@ -93,31 +93,31 @@ module _ (f : Fields) (front rest : List ℕ) (long : 10244 ≤ length front) wh
   fails_front : {number : ℕ} → FieldFails f all number → FieldFails f front number
   fails_front (cut h) =
       absurd (⊎_elim (λ h. omega (arith, length-append front rest)) (λ h. omega (arith, length-append front rest, right_few h.0.1)) h)
-  fails_front (wrong-tag headed out) = wrong-tag headed_front (rw same_tag at out)
+  fails_front (wrong_tag headed out) = wrong_tag headed_front (rw same_tag at out)
   fails_front (no_target none_left h) = absurd (omega (arith, length-append front rest, ap length none_left))
-  fails_front (wrong-length h wrong) = wrong-length (counted_front h) (rw (same_tag, same_size) at wrong)
-  fails_front (wrong-bounds whole e wrong) =
-      wrong-bounds (whole_front whole) (rw same_tag at e) (rw (same_value whole) at wrong)
-  fails_front (equal-rule whole e right known) =
-      let value = same_value whole in equal-rule (whole_front whole) (rw same_tag at e) (rw value at right) (rw value at known)
-  fails_front (rule-too-many h many) = rule-too-many (tagged_front h) (rw same_tag at many)
-  fails_front (names-outside whole e out) =
-      names-outside (whole_front whole) (rw same_tag at e) (rw (same_value whole) at out)
-  fails_front (names-twice whole e inside same) =
-      let value = same_value whole in names-twice (whole_front whole) (rw same_tag at e) (rw value at inside) (rw value at same)
-  fails_front (keep-astray whole e astray) =
-      keep-astray (whole_front whole) (rw same_tag at e) (rw (same_value whole) at astray)
-  fails_front (wrong-coding whole e wrong) =
-      wrong-coding (whole_front whole) (rw same_tag at e) (rw (same_value whole) at wrong)
-  fails_front (wrong-default whole e wrong) =
-      wrong-default (whole_front whole) (rw same_tag at e) (rw (same_value whole) at wrong)
+  fails_front (wrong_length h wrong) = wrong_length (counted_front h) (rw (same_tag, same_size) at wrong)
+  fails_front (wrong_bounds whole e wrong) =
+      wrong_bounds (whole_front whole) (rw same_tag at e) (rw (same_value whole) at wrong)
+  fails_front (equal_rule whole e right known) =
+      let value = same_value whole in equal_rule (whole_front whole) (rw same_tag at e) (rw value at right) (rw value at known)
+  fails_front (rule_too_many h many) = rule_too_many (tagged_front h) (rw same_tag at many)
+  fails_front (names_outside whole e out) =
+      names_outside (whole_front whole) (rw same_tag at e) (rw (same_value whole) at out)
+  fails_front (names_twice whole e inside same) =
+      let value = same_value whole in names_twice (whole_front whole) (rw same_tag at e) (rw value at inside) (rw value at same)
+  fails_front (keep_astray whole e astray) =
+      keep_astray (whole_front whole) (rw same_tag at e) (rw (same_value whole) at astray)
+  fails_front (wrong_coding whole e wrong) =
+      wrong_coding (whole_front whole) (rw same_tag at e) (rw (same_value whole) at wrong)
+  fails_front (wrong_default whole e wrong) =
+      wrong_default (whole_front whole) (rw same_tag at e) (rw (same_value whole) at wrong)
 
 -- A file that is longer than the fields before a field and the most bytes that turn it away, 44,049 and 10,244.
 module _ (most : ℕ) (enough : 54293 ≤ most) where
   turned_by_first : (file : List ℕ) (number at : ℕ) → most ≤ length file → TurnedAway file number at
       → TurnedAway (take most file) number at
   turned_by_first file number at long h =
-      let bytes = fieldsBytes h.fields in
+      let bytes = fields_bytes h.fields in
       let left = h.left in
       let n = most - length bytes in
       let fit = fields_fit h.fields h.readable in

@@ -25,34 +25,34 @@ use Rattle.deployment.specs.File.{
   Fields,
   nothing,
   listed,
-  tagsAfter,
-  tagOr,
-  lastTag,
-  lengthFits,
+  tags_after,
+  tag_or,
+  last_tag,
+  length_fits,
   Field,
-  fieldRead,
-  withRule,
-  withPolicy,
-  withDefault,
-  withKeep,
-  withScript,
-  withField,
+  field_read,
+  with_rule,
+  with_policy,
+  with_default,
+  with_keep,
+  with_script,
+  with_field,
   Reading,
   accepted,
   refused,
-  readingNumbers,
-  atEnd,
-  readFrom,
-  readFile,
-  needsScript,
-  readToJudge,
-  ifThere,
-  fileOf,
-  rule-tag,
-  initial-tag,
-  target-tag,
-  default-tag,
-  keep-tag,
+  reading_numbers,
+  at_end,
+  read_from,
+  read_file,
+  needs_script,
+  read_to_judge,
+  if_there,
+  file_of,
+  rule_tag,
+  initial_tag,
+  target_tag,
+  default_tag,
+  keep_tag,
   head_bytes,
 }
 use Rattle.deployment.specs.Properties.{
@@ -61,31 +61,31 @@ use Rattle.deployment.specs.Properties.{
   Scripted,
   IfThere,
   There,
-  upToTarget,
-  upToDefault,
-  upToKeep,
+  up_to_target,
+  up_to_default,
+  up_to_keep,
   DefaultBehind,
   KeepBehind,
   ScriptBehind,
   Readable,
-  fieldsBytes,
+  fields_bytes,
   tag_of,
   size_of,
   value_of,
   Whole,
   FieldFails,
   cut,
-  wrong-tag,
+  wrong_tag,
   no_target,
-  wrong-length,
-  wrong-bounds,
-  equal-rule,
-  rule-too-many,
-  names-outside,
-  names-twice,
-  keep-astray,
-  wrong-coding,
-  wrong-default,
+  wrong_length,
+  wrong_bounds,
+  equal_rule,
+  rule_too_many,
+  names_outside,
+  names_twice,
+  keep_astray,
+  wrong_coding,
+  wrong_default,
   TurnedAway,
 }
 use Rattle.deployment.specs.Claims.{WrittenAgain, Refused, RefusedWithoutScript, AcceptedFileFits}
@@ -102,26 +102,26 @@ use Rattle.deployment.proofs.ReadBack.{pass_over, read_through, there_too, valid
 -- One field: turned away, or read, and then what is left behind it.
 read_by {ℓ} : (Right : Reading → Type ℓ) (f : Fields) (at x : ℕ) (l : List ℕ)
     → ((why : Why) → taken f (x ∷ l) ≡ bad why → Right (refused (record { why = why; at = at })))
-    → ((field : Field) (g : Fields) → fieldRead f (x ∷ l) ≡ good field → taken f (x ∷ l) ≡ good g
-    → Right (readFrom (2 + length field.value) g (suc at) l))
-    → Right (readFrom 0 f at (x ∷ l))
-unfolding readFrom
-read_by Right f at x l turned passed = head (fieldRead f (x ∷ l)) refl
+    → ((field : Field) (g : Fields) → field_read f (x ∷ l) ≡ good field → taken f (x ∷ l) ≡ good g
+    → Right (read_from (2 + length field.value) g (suc at) l))
+    → Right (read_from 0 f at (x ∷ l))
+unfolding read_from
+read_by Right f at x l turned passed = head (field_read f (x ∷ l)) refl
   where
-    value : (field : Field) (read : Checked Fields) → fieldRead f (x ∷ l) ≡ good field → withField f field ≡ read
-        → Right (readFrom 0 f at (x ∷ l))
-    value field (bad why) h e = rw (h, readFrom, e) (turned why (rw (h, e)))
-    value field (good g) h e = rw (h, readFrom, e) (passed field g h (rw (h, e)))
+    value : (field : Field) (read : Checked Fields) → field_read f (x ∷ l) ≡ good field → with_field f field ≡ read
+        → Right (read_from 0 f at (x ∷ l))
+    value field (bad why) h e = rw (h, read_from, e) (turned why (rw (h, e)))
+    value field (good g) h e = rw (h, read_from, e) (passed field g h (rw (h, e)))
 
-    head : (read : Checked Field) → fieldRead f (x ∷ l) ≡ read → Right (readFrom 0 f at (x ∷ l))
-    head (bad why) h = rw (h, readFrom) (turned why (rw h))
-    head (good field) h = value field (withField f field) h refl
+    head : (read : Checked Field) → field_read f (x ∷ l) ≡ read → Right (read_from 0 f at (x ∷ l))
+    head (bad why) h = rw (h, read_from) (turned why (rw h))
+    head (good field) h = value field (with_field f field) h refl
 
 -- the bytes of a field that is whole are passed over
 passed_over : (f : Fields) (field : Field) (g : Fields) (at x : ℕ) (l : List ℕ)
-    → Whole f (x ∷ l) → fieldRead f (x ∷ l) ≡ good field
-    → readFrom (2 + length field.value) g (suc at) l
-    ≡ readFrom 0 g (at + (head_bytes + size_of (x ∷ l))) (drop (head_bytes + size_of (x ∷ l)) (x ∷ l))
+    → Whole f (x ∷ l) → field_read f (x ∷ l) ≡ good field
+    → read_from (2 + length field.value) g (suc at) l
+    ≡ read_from 0 g (at + (head_bytes + size_of (x ∷ l))) (drop (head_bytes + size_of (x ∷ l)) (x ∷ l))
 passed_over f field g at x l whole e =
     let size = size_of (x ∷ l) in
     let known = whole_read f (x ∷ l) whole in
@@ -134,58 +134,58 @@ passed_over f field g at x l whole e =
 
 -- What is right of a reading: accepted contents are valid and are written as the file, a refusal is a row of the table.
 abbrev pub ReadingRight : List ℕ → Reading → Type 0
-ReadingRight file (accepted c) = Valid c × (fileOf c ≡ file)
+ReadingRight file (accepted c) = Valid c × (file_of c ≡ file)
 ReadingRight file (refused refusal) = TurnedAway file (why_number refusal.why) refusal.at
 
 turned_away : (f : Fields) (left : List ℕ) {number : ℕ} → Readable f → FieldFails f left number
-    → TurnedAway (fieldsBytes f ++ left) number (length (fieldsBytes f))
+    → TurnedAway (fields_bytes f ++ left) number (length (fields_bytes f))
 turned_away f left r fails = record { fields = f; left = left; is = refl; readable = r; counted = refl; fails = fails }
 
-keepable : (f : Fields) (keep : Option (List ℕ)) → IfThere (KeepBehind (upToDefault f)) keep → Keepable (listed f.initial) (listed f.target) keep
+keepable : (f : Fields) (keep : Option (List ℕ)) → IfThere (KeepBehind (up_to_default f)) keep → Keepable (listed f.initial) (listed f.target) keep
 keepable f none h = tt
 keepable f (some k) h = (h.1, h.2)
 
-end_right : (f : Fields) → Readable f → ReadingRight (fieldsBytes f ++ []) (atEnd f (length (fieldsBytes f)))
-unfolding atEnd fieldsBytes ifThere fileOf listed tagsAfter tagOr lastTag mem
+end_right : (f : Fields) → Readable f → ReadingRight (fields_bytes f ++ []) (at_end f (length (fields_bytes f)))
+unfolding at_end fields_bytes if_there file_of listed tags_after tag_or last_tag mem
 end_right f r = go f.catalogue f.initial f.target f.default f.keep f.script r
   where
     go : (c : List Rule) (i t : Option (List ℕ)) (d : Option Action) (k : Option (List ℕ)) (s : Option Script)
-        → let f = fields c i t d k s in Readable f → ReadingRight (fieldsBytes f ++ []) (atEnd f (length (fieldsBytes f)))
+        → let f = fields c i t d k s in Readable f → ReadingRight (fields_bytes f ++ []) (at_end f (length (fields_bytes f)))
     go c i none d k s r = turned_away _ [] r (no_target refl (λ h. h))
-    go c none (some t) d k s r = absurd (not_mem target-tag (tagsAfter rule-tag) refl r.target.0)
+    go c none (some t) d k s r = absurd (not_mem target_tag (tags_after rule_tag) refl r.target.0)
     go c (some i) (some t) d k s r =
         let f = fields c (some i) (some t) d k s in
-        let permit = there_too (DefaultBehind (upToTarget f)) (λ action. action ≡ Permit) (λ action h. h.1) d r.default in (
+        let permit = there_too (DefaultBehind (up_to_target f)) (λ action. action ≡ Permit) (λ action h. h.1) d r.default in (
           record {
             catalogue = r.catalogue;
             initial = r.initial.1;
             target = r.target.1;
             keep = keepable f k r.keep;
-            script = there_too (ScriptBehind (upToKeep f)) Scripted (λ s h. h.1) s r.script;
+            script = there_too (ScriptBehind (up_to_keep f)) Scripted (λ s h. h.1) s r.script;
           },
-          rw (default_there d permit) (sym (append-nil (fieldsBytes f))),
+          rw (default_there d permit) (sym (append-nil (fields_bytes f))),
         )
 
 -- a reading that goes on is right where every later one is: a field is turned away, or is passed and its bytes join those so far
 abbrev pub RightFrom : Fields → List ℕ → Type 0
-RightFrom f left = ReadingRight (fieldsBytes f ++ left) (readFrom 0 f (length (fieldsBytes f)) left)
+RightFrom f left = ReadingRight (fields_bytes f ++ left) (read_from 0 f (length (fields_bytes f)) left)
 
 by_rest : (f : Fields) (left : List ℕ) → Readable f → AreBytes left
     → ((g : Fields) (rest : List ℕ) → length rest < length left → Readable g → AreBytes rest → RightFrom g rest) → RightFrom f left
-unfolding readFrom
+unfolding read_from
 by_rest f [] r b others = end_right f r
 by_rest f (x ∷ l) r b others =
     let right : ValueRight f (x ∷ l) (taken f (x ∷ l)) = taken_right f (x ∷ l) r b (omega arith) in
-    read_by (ReadingRight (fieldsBytes f ++ (x ∷ l))) f (length (fieldsBytes f)) x l
+    read_by (ReadingRight (fields_bytes f ++ (x ∷ l))) f (length (fields_bytes f)) x l
     (λ why e. turned_away f (x ∷ l) r (subst (ValueRight f (x ∷ l)) e right))
     λ field g h e.
     let more : ValueRight f (x ∷ l) (good g) = subst (ValueRight f (x ∷ l)) e right in
     let past = head_bytes + size_of (x ∷ l) in
     let rest = drop past (x ∷ l) in
     let behind : length rest ≡ length (x ∷ l) - past = length-drop past (x ∷ l) in
-    let position : length (fieldsBytes g) ≡ length (fieldsBytes f) + past =
-    omega (arith, length-append (fieldsBytes g) rest, length-append (fieldsBytes f) (x ∷ l), ap length more.2, more.0.1) in
-    rw (passed_over f field g (length (fieldsBytes f)) x l more.0 h, ← position, ← more.2)
+    let position : length (fields_bytes g) ≡ length (fields_bytes f) + past =
+    omega (arith, length-append (fields_bytes g) rest, length-append (fields_bytes f) (x ∷ l), ap length more.2, more.0.1) in
+    rw (passed_over f field g (length (fields_bytes f)) x l more.0 h, ← position, ← more.2)
     (others g rest (omega arith) more.1 (are_bytes_drop past (x ∷ l) b))
 
 pub reading_right : (n : ℕ) (f : Fields) (left : List ℕ) → length left ≤ n → Readable f → AreBytes left → RightFrom f left
@@ -204,8 +204,8 @@ nothing_readable =
       script = tt;
     }
 
-pub file_right : (file : List ℕ) → AreBytes file → ReadingRight file (readFile file)
-unfolding readFile nothing fieldsBytes ifThere joined
+pub file_right : (file : List ℕ) → AreBytes file → ReadingRight file (read_file file)
+unfolding read_file nothing fields_bytes if_there joined
 file_right file b = reading_right (length file) nothing file (omega arith) nothing_readable b
 
 pub written_again : WrittenAgain
@@ -218,51 +218,51 @@ accepted_file_fits file c b e =
 -- what fails at the end of the file is that no target is there
 fails_at_end : (f : Fields) {number : ℕ} → FieldFails f [] number → (number ≡ 3) × ¬ There f.target
 fails_at_end f (cut h) = absurd (⊎_elim (λ h. omega arith) (λ h. omega arith) h)
-fails_at_end f (wrong-tag headed out) = absurd (omega arith)
+fails_at_end f (wrong_tag headed out) = absurd (omega arith)
 fails_at_end f (no_target none_left h) = (refl, h)
-fails_at_end f (wrong-length h wrong) = absurd (omega arith)
-fails_at_end f (wrong-bounds whole e wrong) = absurd (omega arith)
-fails_at_end f (equal-rule whole e right same) = absurd (omega arith)
-fails_at_end f (rule-too-many h many) = absurd (omega arith)
-fails_at_end f (names-outside whole e out) = absurd (omega arith)
-fails_at_end f (names-twice whole e inside same) = absurd (omega arith)
-fails_at_end f (keep-astray whole e astray) = absurd (omega arith)
-fails_at_end f (wrong-coding whole e wrong) = absurd (omega arith)
-fails_at_end f (wrong-default whole e wrong) = absurd (omega arith)
+fails_at_end f (wrong_length h wrong) = absurd (omega arith)
+fails_at_end f (wrong_bounds whole e wrong) = absurd (omega arith)
+fails_at_end f (equal_rule whole e right same) = absurd (omega arith)
+fails_at_end f (rule_too_many h many) = absurd (omega arith)
+fails_at_end f (names_outside whole e out) = absurd (omega arith)
+fails_at_end f (names_twice whole e inside same) = absurd (omega arith)
+fails_at_end f (keep_astray whole e astray) = absurd (omega arith)
+fails_at_end f (wrong_coding whole e wrong) = absurd (omega arith)
+fails_at_end f (wrong_default whole e wrong) = absurd (omega arith)
 
 absent : {A : Type 0} (o : Option A) → ¬ There o → o ≡ none
 absent none h = refl
 absent (some a) h = absurd (h tt)
 
 fails_read : (f : Fields) (at : ℕ) (left : List ℕ) (number : ℕ) → FieldFails f left number
-    → readingNumbers (readFrom 0 f at left) ≡ number ∷ at ∷ []
-unfolding readFrom atEnd readingNumbers refusal_numbers
-fails_read f at [] number fails = let last = fails_at_end f fails in rw (last.0, absent f.target last.1, atEnd)
+    → reading_numbers (read_from 0 f at left) ≡ number ∷ at ∷ []
+unfolding read_from at_end reading_numbers refusal_numbers
+fails_read f at [] number fails = let last = fails_at_end f fails in rw (last.0, absent f.target last.1, at_end)
 fails_read f at (x ∷ l) number fails =
     let turned = fails_taken f (x ∷ l) (omega arith) fails in
-    read_by (λ reading. readingNumbers reading ≡ number ∷ at ∷ []) f at x l
+    read_by (λ reading. reading_numbers reading ≡ number ∷ at ∷ []) f at x l
     (λ why e. let same : why_number why ≡ number = subst (Turns number) e turned in rw same)
     λ field g h e. absurd (subst (Turns number) e turned)
 
 pub refusals : Refused
-unfolding readFile readingNumbers refusal_numbers
+unfolding read_file reading_numbers refusal_numbers
 refusals file number at b = (
-  λ e. go (readFile file) (file_right file b) e,
+  λ e. go (read_file file) (file_right file b) e,
   λ h. rw (h.is, h.counted)
-      (ap readingNumbers (read_through h.fields h.left h.readable)
-      ∙ fails_read h.fields (length (fieldsBytes h.fields)) h.left number h.fails),
+      (ap reading_numbers (read_through h.fields h.left h.readable)
+      ∙ fails_read h.fields (length (fields_bytes h.fields)) h.left number h.fails),
 )
   where
-    go : (reading : Reading) → ReadingRight file reading → readingNumbers reading ≡ number ∷ at ∷ [] → TurnedAway file number at
+    go : (reading : Reading) → ReadingRight file reading → reading_numbers reading ≡ number ∷ at ∷ [] → TurnedAway file number at
     go (accepted c) right e = absurd (omega (arith, ap length e))
     go (refused refusal) right e = let same = both_same e in rw (← same.0, ← same.1) right
 
 -- the same of a refusal
 pub refusal_row : (file : List ℕ) (refusal : Refusal) → AreBytes file
-    → (readFile file ≡ refused refusal) ↔ TurnedAway file (why_number refusal.why) refusal.at
+    → (read_file file ≡ refused refusal) ↔ TurnedAway file (why_number refusal.why) refusal.at
 unfolding refusal_numbers
 refusal_row file refusal b =
-    let says = reading_numbers_say (readFile file) refusal in
+    let says = reading_numbers_say (read_file file) refusal in
     let row = refusals file (why_number refusal.why) refusal.at b in
     (λ e. row.0 (says.1 e), λ h. says.0 (row.1 h))
 
@@ -280,13 +280,13 @@ own_then : {A B : Type 0} (read : Checked A) (next : A → Checked B) → AllOwn
     → AllOwn (◌>>=◌ read next)
 own_then read next h others = each_then (λ a. Unit {0}) (λ b. Unit {0}) Own read next h (λ a t. others a)
 
-head_own : (f : Fields) (left : List ℕ) → AllOwn (fieldRead f left)
-unfolding fieldRead
+head_own : (f : Fields) (left : List ℕ) → AllOwn (field_read f left)
+unfolding field_read
 head_own f left =
     tested AllOwn (leb head_bytes (length left)) (λ e. inl (omega arith)) λ e.
-    tested AllOwn (mem (tag_of left) (tagsAfter (lastTag f))) (λ e. inl (omega arith)) λ e.
-    tested AllOwn (not (eqb (tag_of left) rule-tag && leb most_rules (length f.catalogue))) (λ e. inl (omega arith)) λ e.
-    tested AllOwn (lengthFits (tag_of left) (size_of left)) (λ e. inl (omega arith)) λ e.
+    tested AllOwn (mem (tag_of left) (tags_after (last_tag f))) (λ e. inl (omega arith)) λ e.
+    tested AllOwn (not (eqb (tag_of left) rule_tag && leb most_rules (length f.catalogue))) (λ e. inl (omega arith)) λ e.
+    tested AllOwn (length_fits (tag_of left) (size_of left)) (λ e. inl (omega arith)) λ e.
     tested AllOwn (leb (head_bytes + size_of left) (length left)) (λ e. inl (omega arith)) λ e. tt
 
 rule_own : (c : List Rule) (value : List ℕ) → AllOwn (rule_read c value)
@@ -308,65 +308,65 @@ branch {ℓ} : {A : Type 0} (P : A → Type ℓ) (test : Bool) {x y : A} → P x
 branch P true p q = p
 branch P false p q = q
 
-value_own : (f : Fields) (field : Field) → AllOwn (withField f field)
-unfolding withField withRule withPolicy withDefault withKeep withScript
+value_own : (f : Fields) (field : Field) → AllOwn (with_field f field)
+unfolding with_field with_rule with_policy with_default with_keep with_script
 value_own f field =
     let value = field.value in
     let c = f.catalogue in
     let size = length c in
     let i = listed f.initial in
     let t = listed f.target in
-    branch AllOwn (eqb field.tag rule-tag) (own_then (rule_read c value) _ (rule_own c value) (λ a. tt))
-    (branch AllOwn (eqb field.tag initial-tag) (own_then (policy_read size value) _ (policy_own size value) (λ a. tt))
-    (branch AllOwn (eqb field.tag target-tag) (own_then (policy_read size value) _ (policy_own size value) (λ a. tt))
-    (branch AllOwn (eqb field.tag default-tag) (own_then (default_read value) _ (default_own value) (λ a. tt))
-    (branch AllOwn (eqb field.tag keep-tag) (own_then (keep_read i t value) _ (keep_own i t value) (λ a. tt))
+    branch AllOwn (eqb field.tag rule_tag) (own_then (rule_read c value) _ (rule_own c value) (λ a. tt))
+    (branch AllOwn (eqb field.tag initial_tag) (own_then (policy_read size value) _ (policy_own size value) (λ a. tt))
+    (branch AllOwn (eqb field.tag target_tag) (own_then (policy_read size value) _ (policy_own size value) (λ a. tt))
+    (branch AllOwn (eqb field.tag default_tag) (own_then (default_read value) _ (default_own value) (λ a. tt))
+    (branch AllOwn (eqb field.tag keep_tag) (own_then (keep_read i t value) _ (keep_own i t value) (λ a. tt))
     (own_then (script_read value) _ (script_own value) (λ a. tt))))))
 
 abbrev ReadsOwn : Reading → Type 0
 ReadsOwn (accepted c) = Unit {0}
 ReadsOwn (refused refusal) = Own refusal.why
 
-reading_own : (n : ℕ) (f : Fields) (at : ℕ) (left : List ℕ) → ReadsOwn (readFrom n f at left)
-unfolding readFrom atEnd
-reading_own n f at [] = by_option f.target (λ e. rw (e, atEnd) (inl (omega arith))) (λ t e. rw (e, atEnd) tt)
+reading_own : (n : ℕ) (f : Fields) (at : ℕ) (left : List ℕ) → ReadsOwn (read_from n f at left)
+unfolding read_from at_end
+reading_own n f at [] = by_option f.target (λ e. rw (e, at_end) (inl (omega arith))) (λ t e. rw (e, at_end) tt)
 reading_own (suc n) f at (x ∷ l) = reading_own n f (suc at) l
 reading_own zero f at (x ∷ l) =
     read_by ReadsOwn f at x l
-    (λ why e. subst AllOwn e (own_then (fieldRead f (x ∷ l)) _ (head_own f (x ∷ l)) (value_own f)))
+    (λ why e. subst AllOwn e (own_then (field_read f (x ∷ l)) _ (head_own f (x ∷ l)) (value_own f)))
     (λ field g h e. reading_own (2 + length field.value) g (suc at) l)
 
-pub file_numbers_lem : (file : List ℕ) (number at : ℕ) → readingNumbers (readFile file) ≡ number ∷ at ∷ [] → (number ≤ 11) ⊎ (number ≡ 50)
-unfolding readFile readingNumbers refusal_numbers
-file_numbers_lem file number at e = go (readFile file) (reading_own 0 nothing 0 file) e
+pub file_numbers_lem : (file : List ℕ) (number at : ℕ) → reading_numbers (read_file file) ≡ number ∷ at ∷ [] → (number ≤ 11) ⊎ (number ≡ 50)
+unfolding read_file reading_numbers refusal_numbers
+file_numbers_lem file number at e = go (read_file file) (reading_own 0 nothing 0 file) e
   where
-    go : (reading : Reading) → ReadsOwn reading → readingNumbers reading ≡ number ∷ at ∷ [] → (number ≤ 11) ⊎ (number ≡ 50)
+    go : (reading : Reading) → ReadsOwn reading → reading_numbers reading ≡ number ∷ at ∷ [] → (number ≤ 11) ⊎ (number ≡ 50)
     go (accepted c) own e = absurd (omega (arith, ap length e))
     go (refused refusal) own e = subst OwnNumber (both_same e).0 own
 
 -- none of them is the number for room, with a script or without
-pub never_room : (file : List ℕ) (at : ℕ) → ¬ (readingNumbers (readFile file) ≡ 13 ∷ at ∷ [])
+pub never_room : (file : List ℕ) (at : ℕ) → ¬ (reading_numbers (read_file file) ≡ 13 ∷ at ∷ [])
 never_room file at e = ⊎_elim (λ low. omega arith) (λ is. omega arith) (file_numbers_lem file 13 at e)
 
-pub never_room_to_judge : (file : List ℕ) (at : ℕ) → ¬ (readingNumbers (readToJudge file) ≡ 13 ∷ at ∷ [])
-unfolding readToJudge needsScript readingNumbers refusal_numbers
-never_room_to_judge file at e = go (readFile file) refl e
+pub never_room_to_judge : (file : List ℕ) (at : ℕ) → ¬ (reading_numbers (read_to_judge file) ≡ 13 ∷ at ∷ [])
+unfolding read_to_judge needs_script reading_numbers refusal_numbers
+never_room_to_judge file at e = go (read_file file) refl e
   where
-    go : (reading : Reading) → readFile file ≡ reading → ¬ (readingNumbers (needsScript (length file) reading) ≡ 13 ∷ at ∷ [])
-    go (refused refusal) h e = never_room file at (ap readingNumbers h ∙ e)
+    go : (reading : Reading) → read_file file ≡ reading → ¬ (reading_numbers (needs_script (length file) reading) ≡ 13 ∷ at ∷ [])
+    go (refused refusal) h e = never_room file at (ap reading_numbers h ∙ e)
     go (accepted c) h e =
         by_option c.script
-        (λ absent. omega (arith, (both_same (rw (absent, needsScript) at e)).0))
-        (λ s there. omega (arith, ap length (rw (there, needsScript) at e)))
+        (λ absent. omega (arith, (both_same (rw (absent, needs_script) at e)).0))
+        (λ s there. omega (arith, ap length (rw (there, needs_script) at e)))
 
 pub refused_without_script : RefusedWithoutScript
-unfolding readToJudge needsScript readingNumbers refusal_numbers
-refused_without_script file at = (λ e. go (readFile file) refl e, λ h. rw (h.1, h.2, needsScript, h.3))
+unfolding read_to_judge needs_script reading_numbers refusal_numbers
+refused_without_script file at = (λ e. go (read_file file) refl e, λ h. rw (h.1, h.2, needs_script, h.3))
   where
-    go : (reading : Reading) → readFile file ≡ reading → readingNumbers (needsScript (length file) reading) ≡ 12 ∷ at ∷ []
-        → (c : Contents) × (readFile file ≡ accepted c) × (c.script ≡ none) × (at ≡ length file)
-    go (refused refusal) h e = absurd (⊎_elim (λ low. omega arith) (λ is. omega arith) (file_numbers_lem file 12 at (ap readingNumbers h ∙ e)))
+    go : (reading : Reading) → read_file file ≡ reading → reading_numbers (needs_script (length file) reading) ≡ 12 ∷ at ∷ []
+        → (c : Contents) × (read_file file ≡ accepted c) × (c.script ≡ none) × (at ≡ length file)
+    go (refused refusal) h e = absurd (⊎_elim (λ low. omega arith) (λ is. omega arith) (file_numbers_lem file 12 at (ap reading_numbers h ∙ e)))
     go (accepted c) h e =
         by_option c.script
-        (λ absent. (c, h, absent, sym (both_same (rw (absent, needsScript) at e)).1))
-        (λ s there. absurd (omega (arith, ap length (rw (there, needsScript) at e))))
+        (λ absent. (c, h, absent, sym (both_same (rw (absent, needs_script) at e)).1))
+        (λ s there. absurd (omega (arith, ap length (rw (there, needs_script) at e))))

@@ -30,19 +30,19 @@ use Rattle.deployment.specs.Checked.{Checked, good, bad, ◌>>=◌, ◌>>◌, re
 use Rattle.deployment.specs.Bytes.{number, part}
 use Rattle.deployment.specs.Values.{
   Script,
-  rule-bytes,
-  default-bytes,
-  defaultFits,
-  ruleOf,
-  ruleFits,
+  rule_bytes_lem,
+  default_bytes_lem,
+  default_fits,
+  rule_of,
+  rule_fits,
   rising,
-  rangeAt,
+  range_at,
   known,
-  numbersOf,
-  scriptOf,
-  listFits,
-  most-script-bytes,
-  scriptFits,
+  numbers_of,
+  script_of,
+  list_fits,
+  most_script_bytes,
+  script_fits,
 }
 use Rattle.deployment.specs.Contents.{rule_read, policy_read, default_read, keep_read, script_read}
 use Rattle.deployment.specs.File.{length_fits, rule_tag, default_tag, script_tag}
@@ -114,17 +114,17 @@ pub denies_at_most : (a b : ℕ) → Denies (leb a b) (b < a)
 denies_at_most a b = (leb-false a b, lt-leb a b)
 
 -- 4: the lengths.
-pub says_list : (size : ℕ) → Says (listFits size) (RightList size)
-unfolding listFits
+pub says_list : (size : ℕ) → Says (list_fits size) (RightList size)
+unfolding list_fits
 says_list size =
     let says = says_and (says_equal (size % 2) 0) (says_at_most size (2 * most_listed)) in
     (λ e. let h = says.0 e in (size / 2, omega arith, omega arith), λ h. says.1 (omega arith))
 
-pub says_script : (size : ℕ) → Says (scriptFits size) (RightScript size)
-unfolding scriptFits
+pub says_script : (size : ℕ) → Says (script_fits size) (RightScript size)
+unfolding script_fits
 says_script size =
     let says =
-    says_and (says_and (says_at_most 1 size) (says_equal ((size - 1) % 5) 0)) (says_at_most size most-script-bytes) in
+    says_and (says_and (says_at_most 1 size) (says_equal ((size - 1) % 5) 0)) (says_at_most size most_script_bytes) in
     (λ e. let h = says.0 e in ((size - 1) / 5, omega arith, omega arith), λ h. says.1 (omega arith))
 
 pub says_length : (tag size : ℕ) → Says (length_fits tag size) (RightLength tag size)
@@ -133,13 +133,13 @@ says_length tag size =
     let rule = says_equal tag rule_tag in
     let script = says_equal tag script_tag in
     let default = says_equal tag default_tag in (
-      λ e. by_test (eqb tag rule_tag) (λ t. inl (rule.0 t, (says_equal size rule-bytes).0 (rw t at e))) λ r.
+      λ e. by_test (eqb tag rule_tag) (λ t. inl (rule.0 t, (says_equal size rule_bytes_lem).0 (rw t at e))) λ r.
           by_test (eqb tag script_tag) (λ t. inr (inl (script.0 t, (says_script size).0 (rw (r, t) at e)))) λ s.
-          by_test (eqb tag default_tag) (λ t. inr (inr (inl (default.0 t, (says_equal size default-bytes).0 (rw (r, s, t) at e))))) λ d.
+          by_test (eqb tag default_tag) (λ t. inr (inr (inl (default.0 t, (says_equal size default_bytes_lem).0 (rw (r, s, t) at e))))) λ d.
           inr (inr (inr (says_not rule r, says_not script s, says_not default d, (says_list size).0 (rw (r, s, d) at e)))),
-      ⊎_elim (λ h. rw h.0 ((says_equal size rule-bytes).1 h.1))
+      ⊎_elim (λ h. rw h.0 ((says_equal size rule_bytes_lem).1 h.1))
           (⊎_elim (λ h. rw h.0 ((says_script size).1 h.1))
-          (⊎_elim (λ h. rw h.0 ((says_equal size default-bytes).1 h.1))
+          (⊎_elim (λ h. rw h.0 ((says_equal size default_bytes_lem).1 h.1))
           (λ h. rw (not_says rule h.0, not_says script h.1, not_says default h.2) ((says_list size).1 h.3)))),
     )
 
@@ -148,13 +148,13 @@ denies_falling : (range : Range) → Denies (rising range) (Falling range)
 unfolding rising
 denies_falling range = denies_at_most range.low range.high
 
-pub denies_bounds : (value : List ℕ) → Denies (ruleFits value) (WrongBounds value)
-unfolding ruleFits
+pub denies_bounds : (value : List ℕ) → Denies (rule_fits value) (WrongBounds value)
+unfolding rule_fits
 denies_bounds value =
     let denies =
-    denies_and (denies_at_most (number (part 0 1 value)) 1) (denies_and (denies_falling (rangeAt 1 1 value))
-    (denies_and (denies_falling (rangeAt 3 4 value)) (denies_and (denies_falling (rangeAt 11 2 value))
-    (denies_and (denies_falling (rangeAt 15 4 value)) (denies_falling (rangeAt 23 2 value)))))) in
+    denies_and (denies_at_most (number (part 0 1 value)) 1) (denies_and (denies_falling (range_at 1 1 value))
+    (denies_and (denies_falling (range_at 3 4 value)) (denies_and (denies_falling (range_at 11 2 value))
+    (denies_and (denies_falling (range_at 15 4 value)) (denies_falling (range_at 23 2 value)))))) in
     (λ e. denies.0 (simp and_assoc at e), λ h. simp and_assoc (denies.1 h))
 
 -- 6: a rule equal to an earlier one.
@@ -200,51 +200,51 @@ tested Right false fails passes = fails refl
 
 -- The runs of tests of each value, by their rows.
 pub rule_tested {ℓ} : (Right : Checked Rule → Type ℓ) (c : List Rule) (value : List ℕ)
-    → (WrongBounds value → Right (bad Bounds)) → (¬ WrongBounds value → Memᴰ (ruleOf value) c → Right (bad Equal))
-    → (ruleFits value ≡ true → ¬ Memᴰ (ruleOf value) c → Right (good (ruleOf value))) → Right (rule_read c value)
+    → (WrongBounds value → Right (bad Bounds)) → (¬ WrongBounds value → Memᴰ (rule_of value) c → Right (bad Equal))
+    → (rule_fits value ≡ true → ¬ Memᴰ (rule_of value) c → Right (good (rule_of value))) → Right (rule_read c value)
 unfolding rule_read
 rule_tested Right c value bounds equal passes =
-    let denies = denies_of_not (says_known (ruleOf value) c) in
-    tested Right (ruleFits value) (λ e. bounds ((denies_bounds value).0 e)) λ fits.
-    tested Right (not (known (ruleOf value) c)) (λ e. equal (denies_not (denies_bounds value) fits) (denies.0 e)) λ e.
+    let denies = denies_of_not (says_known (rule_of value) c) in
+    tested Right (rule_fits value) (λ e. bounds ((denies_bounds value).0 e)) λ fits.
+    tested Right (not (known (rule_of value) c)) (λ e. equal (denies_not (denies_bounds value) fits) (denies.0 e)) λ e.
     passes fits (denies_not denies e)
 
 pub policy_tested_lem {ℓ} : (Right : Checked (List ℕ) → Type ℓ) (size : ℕ) (value : List ℕ)
-    → (NamesOutside size (numbersOf value) → Right (bad Outside))
-    → (¬ NamesOutside size (numbersOf value) → ¬ Distinct (numbersOf value) → Right (bad Twice))
-    → (Admitted size (numbersOf value) → Right (good (numbersOf value))) → Right (policy_read size value)
+    → (NamesOutside size (numbers_of value) → Right (bad Outside))
+    → (¬ NamesOutside size (numbers_of value) → ¬ Distinct (numbers_of value) → Right (bad Twice))
+    → (Admitted size (numbers_of value) → Right (good (numbers_of value))) → Right (policy_read size value)
 unfolding policy_read
 policy_tested_lem Right size value outside twice passes =
-    let denies = denies_inside size (numbersOf value) in
-    tested Right (all (λ r. ltb r size) (numbersOf value)) (λ e. outside (denies.0 e)) λ e.
+    let denies = denies_inside size (numbers_of value) in
+    tested Right (all (λ r. ltb r size) (numbers_of value)) (λ e. outside (denies.0 e)) λ e.
     let inside = denies_not denies e in
-    tested Right (differ (numbersOf value)) (λ e. twice inside (says_not (says_differ (numbersOf value)) e)) λ d.
+    tested Right (differ (numbers_of value)) (λ e. twice inside (says_not (says_differ (numbers_of value)) e)) λ d.
     passes (record {
-      inside = λ r h. ltb-true r size (all_in (λ r. ltb r size) (numbersOf value) e r h);
-      distinct = differ_distinct (numbersOf value) d;
+      inside = λ r h. ltb-true r size (all_in (λ r. ltb r size) (numbers_of value) e r h);
+      distinct = differ_distinct (numbers_of value) d;
     })
 
 pub default_tested {ℓ} : (Right : Checked Action → Type ℓ) (value : List ℕ)
     → (WrongDefault value → Right (bad Default)) → (number value ≡ 1 → Right (good Permit)) → Right (default_read value)
-unfolding default_read defaultFits
+unfolding default_read default_fits
 default_tested Right value fails passes =
     let says = says_equal (number value) 1 in
     tested Right (eqb (number value) 1) (λ e. fails (says_not says e)) λ e. passes (says.0 e)
 
 pub keep_tested {ℓ} : (Right : Checked (List ℕ) → Type ℓ) (i t value : List ℕ)
-    → (¬ (Sublistᴰ (numbersOf value) i × Sublistᴰ (numbersOf value) t) → Right (bad Keep))
-    → (Sublistᴰ (numbersOf value) i → Sublistᴰ (numbersOf value) t → Right (good (numbersOf value))) → Right (keep_read i t value)
+    → (¬ (Sublistᴰ (numbers_of value) i × Sublistᴰ (numbers_of value) t) → Right (bad Keep))
+    → (Sublistᴰ (numbers_of value) i → Sublistᴰ (numbers_of value) t → Right (good (numbers_of value))) → Right (keep_read i t value)
 unfolding keep_read
 keep_tested Right i t value fails passes =
-    let says = says_occurs (numbersOf value) i t in
-    tested Right (occurs (numbersOf value) i && occurs (numbersOf value) t) (λ e. fails (says_not says e)) λ e.
+    let says = says_occurs (numbers_of value) i t in
+    tested Right (occurs (numbers_of value) i && occurs (numbers_of value) t) (λ e. fails (says_not says e)) λ e.
     passes (says.0 e).0 (says.0 e).1
 
 pub script_tested {ℓ} : (Right : Checked Script → Type ℓ) (value : List ℕ)
-    → (WrongCoding value → Right (bad Coding)) → ((s : Script) → scriptOf value ≡ some s → Right (good s))
+    → (WrongCoding value → Right (bad Coding)) → ((s : Script) → script_of value ≡ some s → Right (good s))
     → Right (script_read value)
 unfolding script_read
 script_tested Right value fails passes =
-    by_option (scriptOf value)
+    by_option (script_of value)
     (λ e. rw (e, script_read) (fails (none_wrong value e)))
     (λ s e. rw (e, script_read) (passes s e))

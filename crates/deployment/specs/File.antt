@@ -9,16 +9,16 @@ use Rattle.deployment.specs.Checked.{Checked, good, bad, ◌>>=◌, ◌>>◌, re
 use Rattle.deployment.specs.Bytes.{number, bytes_of, part, joined}
 use Rattle.deployment.specs.Values.{
   Script,
-  rule-bytes,
-  default-bytes,
-  ruleBytes,
-  numbersBytes,
-  defaultBytes,
-  scriptBytes,
-  defaultOf,
-  defaultField,
-  listFits,
-  scriptFits,
+  rule_bytes_lem,
+  default_bytes_lem,
+  rule_bytes,
+  numbers_bytes,
+  default_bytes,
+  script_bytes,
+  default_of,
+  default_field,
+  list_fits,
+  script_fits,
 }
 use Rattle.deployment.specs.Contents.{Contents, rule_read, policy_read, default_read, keep_read, script_read}
 use Rattle.deployment.specs.declared.Why.{Why}
@@ -161,10 +161,10 @@ last_tag f =
 -- 4, by the tag
 unfoldable pub length_fits : ℕ → ℕ → Bool
 length_fits tag size =
-    cond (eqb tag rule_tag) (eqb size rule-bytes)
-    (cond (eqb tag script_tag) (scriptFits size)
-    (cond (eqb tag default_tag) (eqb size default-bytes)
-    (listFits size)))
+    cond (eqb tag rule_tag) (eqb size rule_bytes_lem)
+    (cond (eqb tag script_tag) (script_fits size)
+    (cond (eqb tag default_tag) (eqb size default_bytes_lem)
+    (list_fits size)))
 
 -- "a one-byte tag, a two-byte length, the value"
 abbrev pub head_bytes : ℕ
@@ -248,7 +248,7 @@ at_end f at =
         catalogue = f.catalogue;
         initial = listed f.initial;
         target = target;
-        default = defaultOf f.default;
+        default = default_of f.default;
         keep = f.keep;
         script = f.script;
       })
@@ -292,9 +292,9 @@ if_there tag written (some a) = field_bytes tag (written a)
 -- "The writer works from the contents"
 unfoldable pub file_of : Contents → List ℕ
 file_of c =
-    joined (map (λ rule. field_bytes rule_tag (ruleBytes rule)) c.catalogue)
-    ++ (field_bytes initial_tag (numbersBytes c.initial)
-    ++ (field_bytes target_tag (numbersBytes c.target)
-    ++ (if_there default_tag defaultBytes (defaultField c.default)
-    ++ (if_there keep_tag numbersBytes c.keep
-    ++ if_there script_tag scriptBytes c.script))))
+    joined (map (λ rule. field_bytes rule_tag (rule_bytes rule)) c.catalogue)
+    ++ (field_bytes initial_tag (numbers_bytes c.initial)
+    ++ (field_bytes target_tag (numbers_bytes c.target)
+    ++ (if_there default_tag default_bytes (default_field c.default)
+    ++ (if_there keep_tag numbers_bytes c.keep
+    ++ if_there script_tag script_bytes c.script))))

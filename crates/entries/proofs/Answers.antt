@@ -20,12 +20,12 @@ use Rattle.last_list.specs.Last.{replay_left, replayed_at_zero}
 use Rattle.last_list.specs.declared.Ran.{Ran}
 use Rattle.last_list.specs.declared.Ran.TheVariants as ran
 use Rattle.entries.specs.Answers.{
-  decidedReading,
-  decidedValues,
-  decidedAtZero,
-  replayedContents,
-  replayedReading,
-  replayedValues,
+  decided_reading,
+  decided_values,
+  decided_at_zero,
+  replayed_contents,
+  replayed_reading,
+  replayed_values,
 }
 use Rattle.values.specs.Answers.{given}
 use Rattle.entries.specs.declared.Decided.{Decided}
@@ -76,9 +76,9 @@ replay_keeps (ended last) place =
     (λ small nothing. refl)
 replay_keeps (broken fault step) place = λ nothing. refl
 
-reading_keeps : (reading : Reading) (place : List ℕ) → Keeps place (replayedReading reading place)
-unfolding replayedReading
-reading_keeps (accepted c) place = replay_keeps (replayedContents c) place
+reading_keeps : (reading : Reading) (place : List ℕ) → Keeps place (replayed_reading reading place)
+unfolding replayed_reading
+reading_keeps (accepted c) place = replay_keeps (replayed_contents c) place
 reading_keeps (refused refusal) place = λ nothing. refl
 
 values_keep : (read : Checked Replayed) (place : List ℕ) → Keeps place (replayed_at_zero read place)
@@ -98,19 +98,19 @@ a_file_that_gives_no_list_keeps_the_place κ a r e p = kept r _ _ a.1.0.now p (r
 pub lists_that_give_no_list_keep_the_place : (κ : _) (a : _) (r : Ran) (e : _) → replay-lists.Post κ a r e → NothingWritten r
     → e.1.1.1.1.1.0.now ≡ a.1.1.1.1.1.0.now
 lists_that_give_no_list_keep_the_place κ a r e p =
-    kept r _ _ a.1.1.1.1.1.0.now p (values_keep (replayedValues a.0.now a.1.0.now (given a.1.1.0 a.1.1.1.0.now) a.1.1.1.1.0.now) a.1.1.1.1.1.0.now)
+    kept r _ _ a.1.1.1.1.1.0.now p (values_keep (replayed_values a.0.now a.1.0.now (given a.1.1.0 a.1.1.1.0.now) a.1.1.1.1.0.now) a.1.1.1.1.1.0.now)
 
 -- For k below the number of flows, the k-th three bytes of the place are what `decide` answers for the k-th flow.
 pub flows_of_a_file_are_decided : (κ : _) (a : _) (n : ℕ) (e : _) → flows-file.Post κ a (Bytes n) e → AreBytes a.0.now
     → (k : ℕ) → k < flow_count a.1.1.0.now
-    → decidedReading a.1.0 (flow_at k a.1.1.0.now) (read_file a.0.now) ≡ decided.Is (decision_at k e.1.1.1.0.now)
+    → decided_reading a.1.0 (flow_at k a.1.1.0.now) (read_file a.0.now) ≡ decided.Is (decision_at k e.1.1.1.0.now)
 flows_of_a_file_are_decided κ a n e p bytes k inside =
     rw (ap (λ (w : Writing). w.place) p)
     (file_flows_decided a.1.0 a.0.now a.1.1.0.now a.1.1.1.0.now n k bytes (sym (ap (λ (w : Writing). w.answer) p)) inside)
 
 pub flows_of_lists_are_decided : (κ : _) (a : _) (n : ℕ) (e : _) → flows-lists.Post κ a (Bytes n) e
     → (k : ℕ) → k < flow_count a.1.1.1.1.0.now
-    → decidedAtZero (decidedValues a.0.now a.1.0.now (given a.1.1.0 a.1.1.1.0.now) (flow_at k a.1.1.1.1.0.now))
+    → decided_at_zero (decided_values a.0.now a.1.0.now (given a.1.1.0 a.1.1.1.0.now) (flow_at k a.1.1.1.1.0.now))
     ≡ decided.Is (decision_at k e.1.1.1.1.1.0.now)
 flows_of_lists_are_decided κ a n e p k inside =
     rw (ap (λ (w : Writing). w.place) p)

@@ -25,14 +25,14 @@ use Rattle.flows.specs.Claims.{flow_at, decision_at, KeepsRest, Short}
 use Rattle.decision.proofs.FirstMatch.{place_in_list}
 use Rattle.flows.proofs.Claims.{not_both, flows_keep_rest, each_decided}
 use Rattle.entries.specs.Answers.{
-  decidedContents,
-  decidedReading,
-  policyTested,
-  decidingValues,
-  decidedValues,
-  decidedAtZero,
-  flowsReading,
-  flowsAtZero,
+  decided_contents,
+  decided_reading,
+  policy_tested,
+  deciding_values,
+  decided_values,
+  decided_at_zero,
+  flows_reading,
+  flows_at_zero,
 }
 use Rattle.entries.specs.Claims.{
   FileFlowsDecided,
@@ -45,37 +45,37 @@ use Rattle.entries.specs.Claims.{
 use Rattle.entries.specs.declared.Decided.TheVariants as decided
 
 pub file_flows_keep_rest : FileFlowsKeepRest
-unfolding flowsReading
+unfolding flows_reading
 file_flows_keep_rest of-target file flows place = go (read_file file)
   where
-    go : (reading : Reading) → KeepsRest place (flowsReading of-target flows reading place)
-    go (accepted c) = flows_keep_rest (λ flow. decidedContents of-target flow c) flows place
+    go : (reading : Reading) → KeepsRest place (flows_reading of-target flows reading place)
+    go (accepted c) = flows_keep_rest (λ flow. decided_contents of-target flow c) flows place
     go (refused refusal) = (λ n e. not_both e, λ refusal e. refl)
 
 pub values_flows_keep_rest : ValuesFlowsKeepRest
-unfolding flowsAtZero
-values_flows_keep_rest rules policy default flows place = go (decidingValues rules policy default)
+unfolding flows_at_zero
+values_flows_keep_rest rules policy default flows place = go (deciding_values rules policy default)
   where
-    go : (read : Checked (Flow → Decision)) → KeepsRest place (flowsAtZero read flows place)
+    go : (read : Checked (Flow → Decision)) → KeepsRest place (flows_at_zero read flows place)
     go (good decides) = flows_keep_rest decides flows place
     go (bad why) = (λ n e. not_both e, λ refusal e. refl)
 
 -- What turns a single flow away.
 pub file_flows_refused : FileFlowsRefused
-unfolding decidedReading flowsReading
+unfolding decided_reading flows_reading
 file_flows_refused of-target file flows place flow refusal e = go (read_file file) e
   where
-    go : (reading : Reading) → decidedReading of-target flow reading ≡ decided.Turned refusal
-        → (flowsReading of-target flows reading place).answer ≡ Turned refusal
+    go : (reading : Reading) → decided_reading of-target flow reading ≡ decided.Turned refusal
+        → (flows_reading of-target flows reading place).answer ≡ Turned refusal
     go (accepted c) e = absurd (let z : ◌≡◌ {A = ℕ} 0 1 = cc in omega arith)
     go (refused other) e = let same : other ≡ refusal = cc in rw same
 
 pub values_flows_refused : ValuesFlowsRefused
-unfolding decidedValues decidedAtZero flowsAtZero
-values_flows_refused rules policy default flows place flow refusal e = go (decidingValues rules policy default) e
+unfolding decided_values decided_at_zero flows_at_zero
+values_flows_refused rules policy default flows place flow refusal e = go (deciding_values rules policy default) e
   where
-    go : (read : Checked (Flow → Decision)) → decidedAtZero (◌>>=◌ read (λ decides. good (decides flow))) ≡ decided.Turned refusal
-        → (flowsAtZero read flows place).answer ≡ Turned refusal
+    go : (read : Checked (Flow → Decision)) → decided_at_zero (◌>>=◌ read (λ decides. good (decides flow))) ≡ decided.Turned refusal
+        → (flows_at_zero read flows place).answer ≡ Turned refusal
     go (good decides) e = absurd (let z : ◌≡◌ {A = ℕ} 0 1 = cc in omega arith)
     go (bad why) e = let same : record { why = why; at = 0 } ≡ refusal = cc in ap Turned same
 
@@ -84,8 +84,8 @@ abbrev Passing : {A : Type 0} → (A → Type 0) → Checked A → Type 0
 Passing P = Each P (λ why. Unit {0})
 
 contents_short : (file : List ℕ) (c : Contents) (of-target : Bool) → AreBytes file → read_file file ≡ accepted c
-    → Short (λ flow. decidedContents of-target flow c)
-unfolding decidedContents
+    → Short (λ flow. decided_contents of-target flow c)
+unfolding decided_contents
 contents_short file c true bytes is flow =
     omega (arith, place_in_list (matching c.catalogue flow) (target_policy c), (written_again file c bytes is).0.target.few)
 contents_short file c false bytes is flow =
@@ -105,8 +105,8 @@ any (good a) = tt
 any (bad why) = tt
 
 policy_tested_short : (rules value : List ℕ) (default : Option (List ℕ))
-    → Passing (λ passed. length passed.1.list ≤ most_listed) (policyTested rules value default)
-unfolding policyTested
+    → Passing (λ passed. length passed.1.list ≤ most_listed) (policy_tested rules value default)
+unfolding policy_tested
 policy_tested_short rules value default =
     let P : List Rule × Policy → Type 0 = λ passed. length passed.1.list ≤ most_listed in
     each_then (λ catalogue. Unit {0}) P (λ why. Unit {0}) (catalogue_value rules) _ (any (catalogue_value rules))
@@ -117,31 +117,31 @@ policy_tested_short rules value default =
     each_then (λ action. Unit {0}) P (λ why. Unit {0}) (default_value default) _ (any (default_value default))
     λ action whatever. few
 
-values_short : (rules value : List ℕ) (default : Option (List ℕ)) → Passing Short (decidingValues rules value default)
-unfolding decidingValues
+values_short : (rules value : List ℕ) (default : Option (List ℕ)) → Passing Short (deciding_values rules value default)
+unfolding deciding_values
 values_short rules value default =
-    each_then (λ passed. length passed.1.list ≤ most_listed) Short (λ why. Unit {0}) (policyTested rules value default) _
+    each_then (λ passed. length passed.1.list ≤ most_listed) Short (λ why. Unit {0}) (policy_tested rules value default) _
     (policy_tested_short rules value default)
     λ passed few flow. omega (arith, place_in_list (matching passed.0 flow) passed.1)
 
 pub file_flows_decided : FileFlowsDecided
-unfolding decidedReading flowsReading
+unfolding decided_reading flows_reading
 file_flows_decided of-target file flows place n k bytes e inside = go (read_file file) refl e
   where
-    go : (reading : Reading) → read_file file ≡ reading → (flowsReading of-target flows reading place).answer ≡ Bytes n
-        → decidedReading of-target (flow_at k flows) reading ≡ decided.Is (decision_at k (flowsReading of-target flows reading place).place)
+    go : (reading : Reading) → read_file file ≡ reading → (flows_reading of-target flows reading place).answer ≡ Bytes n
+        → decided_reading of-target (flow_at k flows) reading ≡ decided.Is (decision_at k (flows_reading of-target flows reading place).place)
     go (accepted c) is e =
         ap decided.Is
-        (each_decided flows place n k inside (λ flow. decidedContents of-target flow c) (contents_short file c of-target bytes is) e)
+        (each_decided flows place n k inside (λ flow. decided_contents of-target flow c) (contents_short file c of-target bytes is) e)
     go (refused refusal) is e = not_both e
 
 pub values_flows_decided : ValuesFlowsDecided
-unfolding decidedValues decidedAtZero flowsAtZero
+unfolding decided_values decided_at_zero flows_at_zero
 values_flows_decided rules policy default flows place n k e inside =
-    go (decidingValues rules policy default) (values_short rules policy default) e
+    go (deciding_values rules policy default) (values_short rules policy default) e
   where
-    go : (read : Checked (Flow → Decision)) → Passing Short read → (flowsAtZero read flows place).answer ≡ Bytes n
-        → decidedAtZero (◌>>=◌ read (λ decides. good (decides (flow_at k flows))))
-        ≡ decided.Is (decision_at k (flowsAtZero read flows place).place)
+    go : (read : Checked (Flow → Decision)) → Passing Short read → (flows_at_zero read flows place).answer ≡ Bytes n
+        → decided_at_zero (◌>>=◌ read (λ decides. good (decides (flow_at k flows))))
+        ≡ decided.Is (decision_at k (flows_at_zero read flows place).place)
     go (good decides) short e = ap decided.Is (each_decided flows place n k inside decides short e)
     go (bad why) short e = not_both e

@@ -35,14 +35,14 @@ use Rattle.values.proofs.Given.{Rules, rules_passed, passed, failed, policy_pass
 use Rattle.reader.proofs.FileAnswers.{Holds, default_placed}
 use Rattle.flows.specs.Flows.{flows_decided}
 use Rattle.entries.specs.Answers.{
-  decidedContents,
-  decidedReading,
-  policyTested,
-  decidingValues,
-  decidedValues,
-  decidedAtZero,
-  flowsReading,
-  flowsAtZero,
+  decided_contents,
+  decided_reading,
+  policy_tested,
+  deciding_values,
+  decided_values,
+  decided_at_zero,
+  flows_reading,
+  flows_at_zero,
 }
 use Rattle.entries.specs.declared.Decided.TheVariants as decided
 
@@ -70,18 +70,18 @@ module _ {file : List ℕ} {layout : Layout} (read : Holds (read_file file) file
     policy_part = rw (default-is ∙ default_placed file layout read.contents read.stands, list-is) (policy_read_lem of-target list which)
 
     pub decided_file : (flow : Flow) {d : Decision} → d ≡ decide (matching (catalogue_of 3 rule-part) flow) (under default (numbers_of list-part))
-        → decided.Is d ≡ decidedReading of-target flow (read_file file)
-    unfolding decidedReading decidedContents
+        → decided.Is d ≡ decided_reading of-target flow (read_file file)
+    unfolding decided_reading decided_contents
     decided_file flow is =
-        for_contents (λ c. decided.Is (decidedContents of-target flow c)) decided.Turned read.is
+        for_contents (λ c. decided.Is (decided_contents of-target flow c)) decided.Turned read.is
         (ap decided.Is (is ∙ ap₂ (λ (c : List Rule) (p : Policy). decide (matching c flow) p) catalogue_part policy_part))
 
     pub flows_of_file : (flows place : List ℕ) {left : Writing}
         → left ≡ flows_decided (λ flow. decide (matching (catalogue_of 3 rule-part) flow) (under default (numbers_of list-part))) flows place
-        → left ≡ flowsReading of-target flows (read_file file) place
-    unfolding flowsReading decidedContents
+        → left ≡ flows_reading of-target flows (read_file file) place
+    unfolding flows_reading decided_contents
     flows_of_file flows place is =
-        for_contents (λ c. flows_decided (λ flow. decidedContents of-target flow c) flows place) (left_alone Turned place) read.is
+        for_contents (λ c. flows_decided (λ flow. decided_contents of-target flow c) flows place) (left_alone Turned place) read.is
         (is
         ∙ ap₂ (λ (c : List Rule) (p : Policy). flows_decided (λ flow. decide (matching c flow) p) flows place) catalogue_part policy_part)
 
@@ -117,10 +117,10 @@ good_bad e = absurd (let z : ◌≡◌ {A = ℕ} 0 1 = cc in omega arith)
 -- Field values: tested at the rules, then at the policy's list, then at its default.
 module _ (rules value : List ℕ) (has : Bool) (default : List ℕ) where
   abbrev tests : Checked (List Rule × Policy)
-  tests = policyTested rules value (given has default)
+  tests = policy_tested rules value (given has default)
 
   pub tested_at_rules : (why : Why) → Bad why ≡ checking (catalogue_value rules) → Bad why ≡ checking tests
-  unfolding policyTested checking
+  unfolding policy_tested checking
   tested_at_rules why e = rw (failed (catalogue_value rules) why e)
 
   module _ (right : Rules rules) where
@@ -132,11 +132,11 @@ module _ (rules value : List ℕ) (has : Bool) (default : List ℕ) where
     over answer e = rw right.counted (rw right.few at e)
 
     pub tested_at_policy : (why : Why) → Listed (Bad why) → Bad why ≡ checking tests
-    unfolding policyTested checking
+    unfolding policy_tested checking
     tested_at_policy why e = rw (right.read, failed (policy_value (length right.catalogue) value) why (over (Bad why) e))
 
     pub tested_at_default : Listed Good → (answer : Checking) → answer ≡ checking (default_value (given has default)) → answer ≡ checking tests
-    unfolding policyTested
+    unfolding policy_tested
     tested_at_default listed answer e =
         rw (right.read, (passed (policy_value (length right.catalogue) value) (over Good listed)).1)
         (e ∙ checking_last (default_value (given has default)) _)
@@ -146,16 +146,16 @@ module _ (rules value : List ℕ) (has : Bool) (default : List ℕ) where
   found = (catalogue_of 0 rules, under (cond has Permit Deny) (numbers_of value))
 
   pub tests_passed : Good ≡ checking tests → (tests ≡ good found) × Rules rules
-  unfolding policyTested checking
+  unfolding policy_tested checking
   tests_passed e = by_rules (catalogue_value rules) refl (catalogue_is rules) e
     where
       by_policy : (c : List Rule) (read : Checked (List ℕ)) → catalogue_value rules ≡ good c → policy_value (length c) value ≡ read
           → c ≡ catalogue_of 0 rules → Good ≡ checking tests → (tests ≡ good found) × Rules rules
       by_policy c (good list) is listed same e =
-          let there = rw (is, listed, policyTested) at e ∙ sym (checking_last (default_value (given has default)) _) in
+          let there = rw (is, listed, policy_tested) at e ∙ sym (checking_last (default_value (given has default)) _) in
           let whole = policy_passed (length c) value (rw listed refl) in
           (rw (is, whole, default_passed has default there, same), rules_passed rules (rw is refl))
-      by_policy c (bad why) is listed same e = good_bad (rw (is, listed, policyTested) at e)
+      by_policy c (bad why) is listed same e = good_bad (rw (is, listed, policy_tested) at e)
 
       by_rules : (read : Checked (List Rule)) → catalogue_value rules ≡ read → Passing (λ c. c ≡ catalogue_of 0 rules) read
           → Good ≡ checking tests → (tests ≡ good found) × Rules rules
@@ -164,18 +164,18 @@ module _ (rules value : List ℕ) (has : Bool) (default : List ℕ) where
 
   -- turned away
   module _ (why : Why) (e : Bad why ≡ checking tests) where
-    none_decides : decidingValues rules value (given has default) ≡ bad why
-    unfolding decidingValues
+    none_decides : deciding_values rules value (given has default) ≡ bad why
+    unfolding deciding_values
     none_decides = rw (failed tests why e)
 
     pub turned_values : (flow : Flow)
-        → decided.Turned (record { why = why; at = 0 }) ≡ decidedAtZero (decidedValues rules value (given has default) flow)
-    unfolding decidedValues decidedAtZero
+        → decided.Turned (record { why = why; at = 0 }) ≡ decided_at_zero (decided_values rules value (given has default) flow)
+    unfolding decided_values decided_at_zero
     turned_values flow = rw none_decides
 
     pub flows_of_turned_values : (flows place : List ℕ)
-        → left_by (Turned (record { why = why; at = 0 })) place ≡ flowsAtZero (decidingValues rules value (given has default)) flows place
-    unfolding flowsAtZero
+        → left_by (Turned (record { why = why; at = 0 })) place ≡ flows_at_zero (deciding_values rules value (given has default)) flows place
+    unfolding flows_at_zero
     flows_of_turned_values flows place =
         turned_at_zero (λ decides. flows_decided decides flows place) (left_alone Turned place) why none_decides
 
@@ -184,17 +184,17 @@ module _ (rules value : List ℕ) (has : Bool) (default : List ℕ) where
     abbrev deciding : Flow → Decision
     deciding flow = decide (matching (catalogue_of 0 rules) flow) (under action (numbers_of value))
 
-    this_decides : decidingValues rules value (given has default) ≡ good deciding
-    unfolding decidingValues
+    this_decides : deciding_values rules value (given has default) ≡ good deciding
+    unfolding deciding_values
     this_decides = rw ((tests_passed e).0, is-default)
 
     pub decided_values_lem : (flow : Flow) {d : Decision} → d ≡ deciding flow
-        → decided.Is d ≡ decidedAtZero (decidedValues rules value (given has default) flow)
-    unfolding decidedValues decidedAtZero
+        → decided.Is d ≡ decided_at_zero (decided_values rules value (given has default) flow)
+    unfolding decided_values decided_at_zero
     decided_values_lem flow is = rw this_decides (ap decided.Is is)
 
     pub flows_of_values : (flows place : List ℕ) {left : Writing} → left ≡ flows_decided deciding flows place
-        → left ≡ flowsAtZero (decidingValues rules value (given has default)) flows place
-    unfolding flowsAtZero
+        → left ≡ flows_at_zero (deciding_values rules value (given has default)) flows place
+    unfolding flows_at_zero
     flows_of_values flows place is =
         for_passed (λ decides. flows_decided decides flows place) (left_alone Turned place) this_decides is

@@ -21,12 +21,12 @@ use Rattle.reader.specs.declared.FileRead.TheVariants.{Accepted}
 use Rattle.entries.specs.Answers.{written_values}
 use Rattle.entries.specs.WriteClaims.{ReadsBack}
 use Rattle.entries.proofs.WriteClaims.{
-  written-reads-back,
-  accepted-written-again,
-  gathered-written-again,
-  turned-away-keeps,
-  refused-for-room,
-  refused-for-values,
+  written_reads_back,
+  accepted_written_again,
+  gathered_written_again,
+  turned_away_keeps,
+  refused_for_room,
+  refused_for_values,
 }
 use Rattle.entries.specs.contracts.lists.write.{signature}
 use Rattle.entries.proofs.lists.write.Reads as write
@@ -51,34 +51,34 @@ pub what_is_written_reads_back : (κ : _) (a : _) (n : ℕ) (e : _) → write.Po
     → ReadsBack (values κ a) (place κ a) e.1.1.1.1.1.1.1.1.1.0.now n
 what_is_written_reads_back κ a n e p are =
     rw (ap (λ (w : Writing). w.place) p)
-    (written-reads-back (values κ a) (place κ a) n are (sym (ap (λ (w : Writing). w.answer) p)))
+    (written_reads_back (values κ a) (place κ a) n are (sym (ap (λ (w : Writing). w.answer) p)))
 
 -- "those of an accepted file, written, give that file"
 pub an_accepted_file_is_written_again : (κ : _) (a : _) (r : Written) (e : _) → write.Post κ a r e → (file : List ℕ) (c : Contents)
     → AreBytes file → read_file file ≡ accepted c → values κ a ≡ values_of c
     → left_by r e.1.1.1.1.1.1.1.1.1.0.now ≡ writing file (place κ a)
 an_accepted_file_is_written_again κ a r e p file c bytes read same =
-    p ∙ ap (λ (v : FieldValues). written_values v (place κ a)) same ∙ accepted-written-again file c (place κ a) bytes read
+    p ∙ ap (λ (v : FieldValues). written_values v (place κ a)) same ∙ accepted_written_again file c (place κ a) bytes read
 
 pub a_gathered_file_is_written_again : (κ : _) (a : _) (r : Written) (e : _) → write.Post κ a r e → (file : List ℕ) (layout : Layout)
     → AreBytes file → file_read file ≡ Accepted layout → values κ a ≡ values_gathered layout file
     → left_by r e.1.1.1.1.1.1.1.1.1.0.now ≡ writing file (place κ a)
 a_gathered_file_is_written_again κ a r e p file layout bytes read same =
-    p ∙ ap (λ (v : FieldValues). written_values v (place κ a)) same ∙ gathered-written-again file layout (place κ a) bytes read
+    p ∙ ap (λ (v : FieldValues). written_values v (place κ a)) same ∙ gathered_written_again file layout (place κ a) bytes read
 
 -- "When turned away, every lent place keeps its bytes"
 pub turned_away_keeps_the_place : (κ : _) (a : _) (r : Written) (e : _) → write.Post κ a r e → (number at : ℕ)
     → written_numbers r ≡ number ∷ at ∷ [] → e.1.1.1.1.1.1.1.1.1.0.now ≡ place κ a
 turned_away_keeps_the_place κ a r e p number at turned =
     ap (λ (w : Writing). w.place) p
-    ∙ turned-away-keeps (values κ a) (place κ a) number at (sym (ap (λ (w : Writing). written_numbers w.answer) p) ∙ turned)
+    ∙ turned_away_keeps (values κ a) (place κ a) number at (sym (ap (λ (w : Writing). written_numbers w.answer) p) ∙ turned)
 
 -- 13, and every other number
 pub write_refuses_for_room : (κ : _) (a : _) (r : Written) (e : _) → write.Post κ a r e → (at : ℕ)
     → (written_numbers r ≡ 13 ∷ at ∷ []) ↔ TooSmall file_of (read_values (values κ a)) (place κ a) at
-write_refuses_for_room κ a r e p at = rw (ap (λ (w : Writing). w.answer) p) (refused-for-room (values κ a) (place κ a) at)
+write_refuses_for_room κ a r e p at = rw (ap (λ (w : Writing). w.answer) p) (refused_for_room (values κ a) (place κ a) at)
 
 pub write_refuses_for_values : (κ : _) (a : _) (r : Written) (e : _) → write.Post κ a r e → (number at : ℕ) → ¬ (number ≡ 13)
     → (written_numbers r ≡ number ∷ at ∷ []) ↔ (ValuesFail (values κ a) number × (at ≡ 0))
 write_refuses_for_values κ a r e p number at other =
-    rw (ap (λ (w : Writing). w.answer) p) (refused-for-values (values κ a) (place κ a) number at other)
+    rw (ap (λ (w : Writing). w.answer) p) (refused_for_values (values κ a) (place κ a) number at other)

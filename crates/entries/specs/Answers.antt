@@ -13,14 +13,14 @@ use Rattle.deployment.specs.Contents.{Contents, initial_policy, target_policy}
 use Rattle.deployment.specs.File.{Reading, file_of}
 use Rattle.deployment.specs.FieldValues.{
   FieldValues,
-  catalogueValue,
-  policyValue,
-  defaultValue,
-  readValues,
+  catalogue_value,
+  policy_value,
+  default_value,
+  read_values,
   answered,
-  answeredAtZero,
+  answered_at_zero,
   Left,
-  leftAlone,
+  left_alone,
   Writing,
   writing,
 }
@@ -49,9 +49,9 @@ decided_reading of-target flow reading = answered (λ c. decided.Is (decided_con
 -- 4, 8, 9", 4, 50 (02, L1)
 unfoldable pub policy_tested : List ℕ → List ℕ → Option (List ℕ) → Checked (List Rule × Policy)
 policy_tested rules value default_value_lem = do
-  catalogue ← catalogueValue rules
-  list ← policyValue (length catalogue) value
-  default ← defaultValue default-value
+  catalogue ← catalogue_value rules
+  list ← policy_value (length catalogue) value
+  default ← default_value default-value
   good (catalogue, under default list)
 
 -- what decides flows
@@ -66,22 +66,22 @@ decided_values rules value default-value flow = do
   good (decides flow)
 
 unfoldable pub decided_at_zero : Checked Decision → Decided
-decided_at_zero read = answeredAtZero decided.Is decided.Turned read
+decided_at_zero read = answered_at_zero decided.Is decided.Turned read
 
 -- many flows
 unfoldable pub flows_reading : Bool → List ℕ → Reading → List ℕ → Writing
 flows_reading of-target flows reading place =
-    answered (λ c. flows_decided (λ flow. decided_contents of-target flow c) flows place) (leftAlone written.Turned place) reading
+    answered (λ c. flows_decided (λ flow. decided_contents of-target flow c) flows place) (left_alone written.Turned place) reading
 
 unfoldable pub flows_at_zero : Checked (Flow → Decision) → List ℕ → List ℕ → Writing
-flows_at_zero read flows place = answeredAtZero (λ decides. flows_decided decides flows place) (leftAlone written.Turned place) read
+flows_at_zero read flows place = answered_at_zero (λ decides. flows_decided decides flows place) (left_alone written.Turned place) read
 
 -- "replays from the initial policy"
 unfoldable pub replayed_contents : Contents → Replayed
 replayed_contents c = replay (length c.catalogue) c.initial (commands_of c.script)
 
 unfoldable pub replayed_reading : Reading → List ℕ → Left Ran
-replayed_reading reading place = answered (λ c. replay_left place (replayed_contents c)) (leftAlone ran.Turned place) reading
+replayed_reading reading place = answered (λ c. replay_left place (replayed_contents c)) (left_alone ran.Turned place) reading
 
 -- the same tests before those of the script; a command edits the list and leaves the default
 unfoldable pub replayed_values : List ℕ → List ℕ → Option (List ℕ) → List ℕ → Checked Replayed
@@ -91,7 +91,7 @@ replayed_values rules initial default-value script = do
 
 -- a plan
 unfoldable pub planned : (Contents → Made) → Reading → List ℕ → Left Planned
-planned planner reading place = answered (λ c. placed_plan (planner c) place) (leftAlone plans.Turned place) reading
+planned planner reading place = answered (λ c. placed_plan (planner c) place) (left_alone plans.Turned place) reading
 
 -- the verdict
 unfoldable pub judged_contents : Contents → Judged
@@ -102,4 +102,4 @@ judged_reading reading = answered judged_contents judged.Turned reading
 
 -- the file
 unfoldable pub written_values : FieldValues → List ℕ → Writing
-written_values v place = answered (λ c. writing (file_of c) place) (leftAlone written.Turned place) (readValues v)
+written_values v place = answered (λ c. writing (file_of c) place) (left_alone written.Turned place) (read_values v)

@@ -7,15 +7,15 @@ ghost use Rattle.values.specs.Answers.{given, values_given};
 ghost use Rattle.last_list.specs.Last.{replayed_at_zero};
 ghost use Rattle.plans.specs.Plans.{made_one, made_two};
 ghost use Rattle.entries.specs.Answers.{
-  policyTested,
-  decidingValues,
-  decidedValues,
-  decidedAtZero,
-  flowsAtZero,
-  replayedValues,
+  policy_tested,
+  deciding_values,
+  decided_values,
+  decided_at_zero,
+  flows_at_zero,
+  replayed_values,
   planned,
-  judgedReading,
-  writtenValues,
+  judged_reading,
+  written_values,
 };
 
 use super::Decided;
@@ -39,7 +39,7 @@ const NO_HEAD: u8 = 0;
 // Tests the rules and a policy over them: 4, 7, 5, 6 for the rules, then 4, 8, 9 for its list, 4, 50 for its default, which is there if
 // `has_default` says so.
 fn tested(rules: &[u8], policy: &[u8], has_default: bool, default: &[u8]) -> Checking
-    ensures { result ≡ checking (policyTested rules.now policy.now (given has_default default.now)) }
+    ensures { result ≡ checking (policy_tested rules.now policy.now (given has_default default.now)) }
 {
     let first = catalogue_checked(rules);
     if let Checking::Bad(why) = first {
@@ -54,7 +54,7 @@ fn tested(rules: &[u8], policy: &[u8], has_default: bool, default: &[u8]) -> Che
 
 // Decides a flow by a policy.
 pub fn decide(rules: &[u8], policy: &[u8], has_default: bool, default: &[u8], flow: Flow) -> Decided
-    ensures { result ≡ decidedAtZero (decidedValues rules.now policy.now (given has_default default.now) flow) }
+    ensures { result ≡ decided_at_zero (decided_values rules.now policy.now (given has_default default.now) flow) }
 {
     let found = tested(rules, policy, has_default, default);
     match found {
@@ -79,7 +79,7 @@ pub fn decide_flows(
     place: &mut [u8],
 ) -> Written
     ensures { left_by result place.new
-        ≡ flowsAtZero (decidingValues rules.now policy.now (given has_default default.now)) flows.now
+        ≡ flows_at_zero (deciding_values rules.now policy.now (given has_default default.now)) flows.now
         place.old }
 {
     let found = tested(rules, policy, has_default, default);
@@ -108,7 +108,7 @@ pub fn replay(
 ) -> Ran
     ensures { left_by result place.new
         ≡ replayed_at_zero
-        (replayedValues rules.now initial.now (given has_default default.now) script.now)
+        (replayed_values rules.now initial.now (given has_default default.now) script.now)
         place.old }
 {
     let found = tested(rules, initial, has_default, default);
@@ -132,7 +132,7 @@ pub fn write(
     place: &mut [u8],
 ) -> Written
     ensures { left_by result place.new
-        ≡ writtenValues
+        ≡ written_values
         (values_given rules.now initial.now target.now has_default default.now has_keep keep.now
         has_script script.now)
         place.old }
@@ -249,7 +249,7 @@ pub fn judge(
     keep: &[u8],
     script: &[u8],
 ) -> Judged
-    ensures { result ≡ judgedReading (read_values (values_given rules.now initial.now target.now
+    ensures { result ≡ judged_reading (read_values (values_given rules.now initial.now target.now
         has_default default.now has_keep keep.now true script.now)) }
 {
     let c = check(

@@ -21,8 +21,8 @@ use Rattle.deployment.specs.declared.Written.TheVariants.{Bytes, Turned}
 use Rattle.deployment.proofs.Flows.{made_of_flow, decision_at_lem, decision_reads_back}
 use Rattle.flows.specs.Flows.{flows_decided}
 use Rattle.flows.specs.Claims.{
-  flowAt,
-  decisionAt,
+  flow_at,
+  decision_at,
   TurnedWith,
   FlowsNotWhole,
   FlowsWithoutRoom,
@@ -120,17 +120,17 @@ flows_keep_rest decides flows place =
 -- The k-th three bytes are the decision of the k-th flow.
 module _ (flows place : List ℕ) (n k : ℕ) (inside : k < length flows / 13) where
   kth_decided : (decides : Flow → Decision) → Short decides
-      → decides (flowAt k flows) ≡ decisionAt k (filled place (decisions_bytes (decisions decides flows place)))
+      → decides (flow_at k flows) ≡ decision_at k (filled place (decisions_bytes (decisions decides flows place)))
   unfolding filled
   kth_decided decides short =
       let all = decisions decides flows place in
       let rest = drop (length (decisions_bytes all)) place in
-      let kth : get_or all k (decides (flow_of [])) ≡ decides (flowAt k flows) = made_of_flow decides flows k inside in
+      let kth : get_or all k (decides (flow_of [])) ≡ decides (flow_at k flows) = made_of_flow decides flows k inside in
       sym
       (ap decision_of (decision_at_lem all rest k (decides (flow_of [])) (omega (arith, how_many decides flows place)) ∙ ap decision_bytes kth)
-      ∙ decision_reads_back (decides (flowAt k flows)) (short (flowAt k flows)))
+      ∙ decision_reads_back (decides (flow_at k flows)) (short (flow_at k flows)))
 
 pub each_decided : EachDecided
 each_decided flows place n k inside decides short =
-    flows_cases (λ w. w.answer ≡ Bytes n → decides (flowAt k flows) ≡ decisionAt k w.place) decides flows place
+    flows_cases (λ w. w.answer ≡ Bytes n → decides (flow_at k flows) ≡ decision_at k w.place) decides flows place
     (λ odd e. not_both e) (λ whole small e. not_both e) (λ whole fits e. kth_decided flows place n k inside decides short)

@@ -28,18 +28,18 @@ use Rattle.lines.specs.Text.{text}
 use Rattle.iptables.specs.Words.{meant}
 use Rattle.iptables.specs.Options.{
   Given,
-  isOption,
-  wordsAt,
+  is_option,
+  words_at,
   place_of,
-  atMostOnce,
-  rangeGiven,
+  at_most_once,
+  range_given,
   target_of,
-  targetGiven,
-  protocolIs,
-  isBehind,
-  portFits,
-  moduleFits,
-  ruleGiven,
+  target_given,
+  protocol_is,
+  is_behind,
+  port_fits,
+  module_fits,
+  rule_given,
 }
 use Rattle.iptables.specs.Properties.{
   Means,
@@ -65,12 +65,12 @@ all_of {P} first others y h = ⊎_elim (λ e. rw e first) (λ t. others y t) (Me
 
 -- One option among those that are given.
 module _ (option : List ℕ) where
-  words_at_it : (g : Given) (given : List Given) → g.option ≡ option → wordsAt option (g ∷ given) ≡ g.word ∷ wordsAt option given
-  unfolding wordsAt
+  words_at_it : (g : Given) (given : List Given) → g.option ≡ option → words_at option (g ∷ given) ≡ g.word ∷ words_at option given
+  unfolding words_at
   words_at_it g given e = rw ((says_same g.option option).1 e)
 
-  words_at_other : (g : Given) (given : List Given) → ¬ (g.option ≡ option) → wordsAt option (g ∷ given) ≡ wordsAt option given
-  unfolding wordsAt
+  words_at_other : (g : Given) (given : List Given) → ¬ (g.option ≡ option) → words_at option (g ∷ given) ≡ words_at option given
+  unfolding words_at
   words_at_other g given n = rw (not_says (says_same g.option option) n)
 
   place_at_it : (g : Given) (given : List Given) → g.option ≡ option → place_of option (g ∷ given) ≡ 0
@@ -87,7 +87,7 @@ module _ (option : List ℕ) where
       by_test (same g.option option) (λ t. it (says.0 t)) (λ f. other (says_not says f))
 
   -- It isn't given, where there are no words of it.
-  pub words_none : (given : List Given) → wordsAt option given ≡ [] → NotGiven option given
+  pub words_none : (given : List Given) → words_at option given ≡ [] → NotGiven option given
   words_none [] e = λ g h. absurd (Memᴰ.not-nil h)
   words_none (g ∷ given) e =
       by_option_lem g
@@ -95,7 +95,7 @@ module _ (option : List ℕ) where
       (λ other. all_of other (words_none given (sym (words_at_other g given other) ∙ e)))
 
   -- Those in front, where it isn't given, add no word and are counted.
-  words_behind : (front back : List Given) → NotGiven option front → wordsAt option (front ++ back) ≡ wordsAt option back
+  words_behind : (front back : List Given) → NotGiven option front → words_at option (front ++ back) ≡ words_at option back
   words_behind [] back n = refl
   words_behind (g ∷ front) back n =
       words_at_other g (front ++ back) (n g (Memᴰ.head refl)) ∙ words_behind front back (λ h t. n h (Memᴰ.tail t))
@@ -107,14 +107,14 @@ module _ (option : List ℕ) where
       place_at_other f (front ++ (g ∷ back)) (n f (Memᴰ.head refl))
       ∙ ap suc (place_behind front g back (λ h t. n h (Memᴰ.tail t)) e)
 
-  pub none_words : (given : List Given) → NotGiven option given → wordsAt option given ≡ []
-  unfolding wordsAt
+  pub none_words : (given : List Given) → NotGiven option given → words_at option given ≡ []
+  unfolding words_at
   none_words [] n = refl
   none_words (g ∷ given) n = words_at_other g given (n g (Memᴰ.head refl)) ∙ none_words given (λ h t. n h (Memᴰ.tail t))
 
   -- It is given once, where there is one word of it.
-  pub words_one : {word : List ℕ} (given : List Given) → wordsAt option given ≡ word ∷ [] → GivenOnce option word given (place_of option given)
-  unfolding wordsAt
+  pub words_one : {word : List ℕ} (given : List Given) → words_at option given ≡ word ∷ [] → GivenOnce option word given (place_of option given)
+  unfolding words_at
   words_one [] e = absurd (nil≢cons e)
   words_one {word} (g ∷ given) e =
       by_option_lem g
@@ -141,7 +141,7 @@ module _ (option : List ℕ) where
     abbrev it : Given
     it = record { option = option; word = word }
 
-    pub one_words : wordsAt option given ≡ word ∷ []
+    pub one_words : words_at option given ≡ word ∷ []
     one_words =
         rw once.is (words_behind once.front (it ∷ once.back) once.before
         ∙ words_at_it it once.back refl
@@ -159,18 +159,18 @@ by_words (word ∷ other ∷ others) empty one more = more word other others ref
 
 -- An option's range.
 module _ (kind : Kind) (option : List ℕ) (given : List Given) where
-  range_reads : Reads (RangeIs kind option given) (rangeGiven kind option given)
-  unfolding rangeGiven atMostOnce
+  range_reads : Reads (RangeIs kind option given) (range_given kind option given)
+  unfolding range_given at_most_once
   range_reads =
-      by_words (wordsAt option given)
+      by_words (words_at option given)
       (λ none. rw none (inl (words_none option given none, refl)))
       (λ word one. rw one
       (reads_map (Means kind word) (RangeIs kind option given) (meant kind word)
       (λ range means. inr (word, place_of option given, words_one option given one, means)) (meant_reads kind word)))
       (λ word other others more. rw more refl)
 
-  range_read : (range : Range) → RangeIs kind option given range → rangeGiven kind option given ≡ good range
-  unfolding rangeGiven atMostOnce
+  range_read : (range : Range) → RangeIs kind option given range → range_given kind option given ≡ good range
+  unfolding range_given at_most_once
   range_read range (inl (none, is)) = rw (none_words option given none, is) refl
   range_read range (inr (word, place, once, means)) = rw (one_words option word given place once) ((word_read_lem kind word range).1 means)
 
@@ -190,23 +190,23 @@ target_read word action (inr (is, denies)) = rw (is, denies) refl
 abbrev TargetIs : List Given → Action → Type 0
 TargetIs given action = (word : List ℕ) × (place : ℕ) × GivenOnce (text "-j") word given place × IsTarget word action
 
-target_reads : (given : List Given) → Reads (TargetIs given) (targetGiven (wordsAt (text "-j") given))
-unfolding targetGiven
+target_reads : (given : List Given) → Reads (TargetIs given) (target_given (words_at (text "-j") given))
+unfolding target_given
 target_reads given =
-    by_words (wordsAt (text "-j") given)
+    by_words (words_at (text "-j") given)
     (λ none. rw none refl)
     (λ word one. rw one
     (reads_map (IsTarget word) (TargetIs given) (target_of word)
     (λ action is. (word, place_of (text "-j") given, words_one (text "-j") given one, is)) (target_is word)))
     (λ word other others more. rw more refl)
 
-target_given_lem : (given : List Given) (action : Action) → TargetIs given action → targetGiven (wordsAt (text "-j") given) ≡ good action
-unfolding targetGiven
+target_given_lem : (given : List Given) (action : Action) → TargetIs given action → target_given (words_at (text "-j") given) ≡ good action
+unfolding target_given
 target_given_lem given action (word, place, once, is) = rw (one_words (text "-j") word given place once) (target_read word action is)
 
 -- The options that are read.
-says_option : (option : List ℕ) → Says (isOption option) (IsOption option)
-unfolding isOption
+says_option : (option : List ℕ) → Says (is_option option) (IsOption option)
+unfolding is_option
 says_option option =
     let is : (name : List ℕ) → Says (same option name) (option ≡ name) = says_same option in
     let says =
@@ -216,7 +216,7 @@ says_option option =
 
 -- An option that stands at most once: no word of it, or one.
 abbrev AtMost : List ℕ → List Given → Type 0
-AtMost option given = (wordsAt option given ≡ []) ⊎ ((word : List ℕ) × (wordsAt option given ≡ word ∷ []))
+AtMost option given = (words_at option given ≡ []) ⊎ ((word : List ℕ) × (words_at option given ≡ word ∷ []))
 
 range_at_most : (kind : Kind) (option : List ℕ) (given : List Given) (range : Range) → RangeIs kind option given range → AtMost option given
 range_at_most kind option given range =
@@ -224,19 +224,19 @@ range_at_most kind option given range =
 
 -- An option behind `-p` with a word.
 module _ (given : List Given) where
-  protocol_is_lem : (word : List ℕ) → AtMost (text "-p") given → protocolIs word given ≡ true → wordsAt (text "-p") given ≡ word ∷ []
-  unfolding protocolIs
-  protocol_is_lem word (inl none) e = never e (rw (none, protocolIs) refl)
+  protocol_is_lem : (word : List ℕ) → AtMost (text "-p") given → protocol_is word given ≡ true → words_at (text "-p") given ≡ word ∷ []
+  unfolding protocol_is
+  protocol_is_lem word (inl none) e = never e (rw (none, protocol_is) refl)
   protocol_is_lem word (inr (first, one)) e =
-      one ∙ ap (λ (w : List ℕ). w ∷ []) (same_eq first word (rw (one, protocolIs) at e))
+      one ∙ ap (λ (w : List ℕ). w ∷ []) (same_eq first word (rw (one, protocol_is) at e))
 
-  is_protocol : (word : List ℕ) → wordsAt (text "-p") given ≡ word ∷ [] → protocolIs word given ≡ true
-  unfolding protocolIs
-  is_protocol word one = rw (one, protocolIs) (same_refl word)
+  is_protocol : (word : List ℕ) → words_at (text "-p") given ≡ word ∷ [] → protocol_is word given ≡ true
+  unfolding protocol_is
+  is_protocol word one = rw (one, protocol_is) (same_refl word)
 
-  stands_behind : (option word protocol : List ℕ) → wordsAt (text "-p") given ≡ protocol ∷ [] → wordsAt option given ≡ word ∷ []
-      → isBehind option given ≡ true → Follows option protocol given
-  unfolding isBehind
+  stands_behind : (option word protocol : List ℕ) → words_at (text "-p") given ≡ protocol ∷ [] → words_at option given ≡ word ∷ []
+      → is_behind option given ≡ true → Follows option protocol given
+  unfolding is_behind
   stands_behind option word protocol first second behind = (
     place_of (text "-p") given,
     word,
@@ -247,100 +247,100 @@ module _ (given : List Given) where
   )
 
   module _ (option protocol : List ℕ) (follows : Follows option protocol given) where
-    follows_words : wordsAt option given ≡ follows.1 ∷ []
+    follows_words : words_at option given ≡ follows.1 ∷ []
     follows_words = one_words option follows.1 given follows.2 follows.4
 
-    follows_behind : isBehind option given ≡ true
-    unfolding isBehind
+    follows_behind : is_behind option given ≡ true
+    unfolding is_behind
     follows_behind =
         rw (one_place (text "-p") protocol given follows.0 follows.3, one_place option follows.1 given follows.2 follows.4)
         (lt-ltb follows.0 follows.2 follows.5)
 
-    follows_protocol : protocolIs protocol given ≡ true
+    follows_protocol : protocol_is protocol given ≡ true
     follows_protocol = is_protocol protocol (one_words (text "-p") protocol given follows.0 follows.3)
 
   -- Ports.
-  port_stands : (option : List ℕ) → AtMost (text "-p") given → AtMost option given → portFits option given ≡ true → PortStands option given
-  unfolding portFits
+  port_stands : (option : List ℕ) → AtMost (text "-p") given → AtMost option given → port_fits option given ≡ true → PortStands option given
+  unfolding port_fits
   port_stands option protocol (inl none) fits = inl (words_none option given none)
   port_stands option protocol (inr (word, one)) fits =
-      let both = and_both (isBehind option given) (protocolIs (text "tcp") given || protocolIs (text "udp") given) (rw (one, portFits) at fits) in
-      let behind : (name : List ℕ) → protocolIs name given ≡ true → Follows option name given =
+      let both = and_both (is_behind option given) (protocol_is (text "tcp") given || protocol_is (text "udp") given) (rw (one, port_fits) at fits) in
+      let behind : (name : List ℕ) → protocol_is name given ≡ true → Follows option name given =
       λ name e. stands_behind option word name (protocol_is_lem name protocol e) one both.0 in
       inr (⊎_elim (λ t. inl (behind (text "tcp") t)) (λ u. inr (behind (text "udp") u))
-      (or_either (protocolIs (text "tcp") given) (protocolIs (text "udp") given) both.1))
+      (or_either (protocol_is (text "tcp") given) (protocol_is (text "udp") given) both.1))
 
   port_behind : (option protocol : List ℕ) → Follows option protocol given
-      → (protocolIs (text "tcp") given || protocolIs (text "udp") given) ≡ true → portFits option given ≡ true
-  unfolding portFits
+      → (protocol_is (text "tcp") given || protocol_is (text "udp") given) ≡ true → port_fits option given ≡ true
+  unfolding port_fits
   port_behind option protocol follows either =
-      rw (follows_words option protocol follows, portFits) (both_and (follows_behind option protocol follows) either)
+      rw (follows_words option protocol follows, port_fits) (both_and (follows_behind option protocol follows) either)
 
-  port_fits_lem : (option : List ℕ) → PortStands option given → portFits option given ≡ true
-  unfolding portFits
-  port_fits_lem option (inl none) = rw (none_words option given none, portFits) refl
+  port_fits_lem : (option : List ℕ) → PortStands option given → port_fits option given ≡ true
+  unfolding port_fits
+  port_fits_lem option (inl none) = rw (none_words option given none, port_fits) refl
   port_fits_lem option (inr (inl tcp)) =
-      port_behind option (text "tcp") tcp (or_left (protocolIs (text "udp") given) (follows_protocol option (text "tcp") tcp))
+      port_behind option (text "tcp") tcp (or_left (protocol_is (text "udp") given) (follows_protocol option (text "tcp") tcp))
   port_fits_lem option (inr (inr udp)) =
-      port_behind option (text "udp") udp (or_right (protocolIs (text "tcp") given) (follows_protocol option (text "udp") udp))
+      port_behind option (text "udp") udp (or_right (protocol_is (text "tcp") given) (follows_protocol option (text "udp") udp))
 
   -- Modules.
-  module_is : (word name : List ℕ) → AtMost (text "-p") given → wordsAt (text "-m") given ≡ word ∷ [] → isBehind (text "-m") given ≡ true
-      → protocolIs word given ≡ true → same word name ≡ true → ModuleIs name given
+  module_is : (word name : List ℕ) → AtMost (text "-p") given → words_at (text "-m") given ≡ word ∷ [] → is_behind (text "-m") given ≡ true
+      → protocol_is word given ≡ true → same word name ≡ true → ModuleIs name given
   module_is word name protocol one behind after is =
       let follows = stands_behind (text "-m") word word (protocol_is_lem word protocol after) one behind in
       let it : ModuleIs word given = (place_of (text "-m") given, words_one (text "-m") given one, follows) in
       rw (same_eq word name is) at it
 
-  module_stands : AtMost (text "-p") given → moduleFits given ≡ true → ModuleStands given
-  unfolding moduleFits
+  module_stands : AtMost (text "-p") given → module_fits given ≡ true → ModuleStands given
+  unfolding module_fits
   module_stands protocol fits =
-      by_words (wordsAt (text "-m") given)
+      by_words (words_at (text "-m") given)
       (λ none. inl (words_none (text "-m") given none))
       (λ word one.
-      let all = and_both (isBehind (text "-m") given && protocolIs word given) (same word (text "tcp") || same word (text "udp"))
-      (rw (one, moduleFits) at fits) in
-      let both = and_both (isBehind (text "-m") given) (protocolIs word given) all.0 in
+      let all = and_both (is_behind (text "-m") given && protocol_is word given) (same word (text "tcp") || same word (text "udp"))
+      (rw (one, module_fits) at fits) in
+      let both = and_both (is_behind (text "-m") given) (protocol_is word given) all.0 in
       let is : (name : List ℕ) → same word name ≡ true → ModuleIs name given = λ name. module_is word name protocol one both.0 both.1 in
       inr (⊎_elim (λ t. inl (is (text "tcp") t)) (λ u. inr (is (text "udp") u))
       (or_either (same word (text "tcp")) (same word (text "udp")) all.1)))
-      (λ word other others more. never fits (rw (more, moduleFits) refl))
+      (λ word other others more. never fits (rw (more, module_fits) refl))
 
-  module_behind : (word : List ℕ) → ModuleIs word given → (same word (text "tcp") || same word (text "udp")) ≡ true → moduleFits given ≡ true
-  unfolding moduleFits
+  module_behind : (word : List ℕ) → ModuleIs word given → (same word (text "tcp") || same word (text "udp")) ≡ true → module_fits given ≡ true
+  unfolding module_fits
   module_behind word (place, once, follows) either =
-      rw (one_words (text "-m") word given place once, moduleFits)
+      rw (one_words (text "-m") word given place once, module_fits)
       (both_and (both_and (follows_behind (text "-m") word follows) (follows_protocol (text "-m") word follows)) either)
 
-  module_fits_lem : ModuleStands given → moduleFits given ≡ true
-  unfolding moduleFits
-  module_fits_lem (inl none) = rw (none_words (text "-m") given none, moduleFits) refl
+  module_fits_lem : ModuleStands given → module_fits given ≡ true
+  unfolding module_fits
+  module_fits_lem (inl none) = rw (none_words (text "-m") given none, module_fits) refl
   module_fits_lem (inr (inl tcp)) = module_behind (text "tcp") tcp (or_left (same (text "tcp") (text "udp")) (same_refl (text "tcp")))
   module_fits_lem (inr (inr udp)) = module_behind (text "udp") udp (or_right (same (text "udp") (text "tcp")) (same_refl (text "udp")))
 
   -- The whole rule.
   range_then : (kind : Kind) (option : List ℕ) (next : Range → Checked Rule)
       → ((range : Range) → RangeIs kind option given range → Reads (RuleSaid given) (next range))
-      → Reads (RuleSaid given) (◌>>=◌ (rangeGiven kind option given) next)
+      → Reads (RuleSaid given) (◌>>=◌ (range_given kind option given) next)
   range_then kind option next =
-      reads_then (RangeIs kind option given) (RuleSaid given) (rangeGiven kind option given) next (range_reads kind option given)
+      reads_then (RangeIs kind option given) (RuleSaid given) (range_given kind option given) next (range_reads kind option given)
 
-  pub rule_reads : Reads (RuleSaid given) (ruleGiven given)
-  unfolding ruleGiven
+  pub rule_reads : Reads (RuleSaid given) (rule_given given)
+  unfolding rule_given
   rule_reads =
-      tested (Reads (RuleSaid given)) (all (λ g. isOption g.option) given) (λ f. refl) λ known.
-      reads_then (TargetIs given) (RuleSaid given) (targetGiven (wordsAt (text "-j") given)) _ (target_reads given) λ action target.
+      tested (Reads (RuleSaid given)) (all (λ g. is_option g.option) given) (λ f. refl) λ known.
+      reads_then (TargetIs given) (RuleSaid given) (target_given (words_at (text "-j") given)) _ (target_reads given) λ action target.
       range_then Protocol (text "-p") _ λ protocol at_p.
       range_then Address (text "-s") _ λ source at-s.
       range_then Port (text "--sport") _ λ source-port at-sport.
       range_then Address (text "-d") _ λ destination at-d.
       range_then Port (text "--dport") _ λ destination-port at-dport.
-      tested (Reads (RuleSaid given)) (portFits (text "--sport") given && portFits (text "--dport") given && moduleFits given) (λ f. refl) λ fits.
+      tested (Reads (RuleSaid given)) (port_fits (text "--sport") given && port_fits (text "--dport") given && module_fits given) (λ f. refl) λ fits.
       let once = range_at_most Protocol (text "-p") given protocol at_p in
-      let ports_module = and_both (portFits (text "--sport") given && portFits (text "--dport") given) (moduleFits given) fits in
-      let ports = and_both (portFits (text "--sport") given) (portFits (text "--dport") given) ports_module.0 in
+      let ports_module = and_both (port_fits (text "--sport") given && port_fits (text "--dport") given) (module_fits given) fits in
+      let ports = and_both (port_fits (text "--sport") given) (port_fits (text "--dport") given) ports_module.0 in
       record {
-        known = λ g h. (says_option g.option).0 (all_in (λ g. isOption g.option) given known g h);
+        known = λ g h. (says_option g.option).0 (all_in (λ g. is_option g.option) given known g h);
         target = target;
         protocol = at_p;
         source = at-s;
@@ -352,11 +352,11 @@ module _ (given : List Given) where
         module_stands = module_stands once ports_module.1;
       }
 
-  rule_given_lem : (r : Rule) → RuleSaid given r → ruleGiven given ≡ good r
-  unfolding ruleGiven
+  rule_given_lem : (r : Rule) → RuleSaid given r → rule_given given ≡ good r
+  unfolding rule_given
   rule_given_lem r said =
       rw (
-        in_all (λ g. isOption g.option) given (λ g h. (says_option g.option).1 (said.known g h)),
+        in_all (λ g. is_option g.option) given (λ g h. (says_option g.option).1 (said.known g h)),
         target_given_lem given r.action said.target,
         range_read Protocol (text "-p") given r.protocol said.protocol,
         range_read Address (text "-s") given r.source said.source,

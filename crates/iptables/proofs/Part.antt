@@ -22,15 +22,15 @@ use Rattle.lines.specs.Text.{text}
 use Rattle.iptables.specs.Listing.{Line, opens, closes, default, rule, passed, is_filter, Found, with_line}
 use Rattle.iptables.specs.Properties.{
   Is,
-  filter-line,
-  other-table,
-  commit-line,
-  empty-line,
-  comment-line,
-  default-line,
-  chain-line,
-  append-line,
-  rule-line,
+  filter_line,
+  other_table,
+  commit_line,
+  empty_line,
+  comment_line,
+  default_line,
+  chain_line,
+  append_line,
+  rule_line_lem,
   Ends,
   Inside,
 }
@@ -116,12 +116,12 @@ module _ (lines : List (List ℕ)) (line : List ℕ) (f : Found) (was : f.inside
 
   pub inside_line : (l : Line) → Is line l → Says (with_line f l).inside (Inside (and_one lines line))
   unfolding with_line text
-  inside_line opens (filter-line is) = (λ t. begins lines line is, λ there. refl)
-  inside_line closes (other-table name is other) = over (inr (name, is)) other
-  inside_line closes (commit-line is) = over (inl is) (λ e. omega (arith, ap start (sym is ∙ e)))
-  inside_line passed (empty-line is) = still (rw is)
-  inside_line passed (comment-line comment is) = still (rw is)
-  inside_line (default action) (default-line word a packets bytes target is) = still (rw is)
-  inside_line passed (chain-line name behind named other ended is) = still (rw is)
-  inside_line passed (append-line name behind named other ended is) = still (rw is)
-  inside_line (rule r) (rule-line s said rises) = still (rw said.is)
+  inside_line opens (filter_line is) = (λ t. begins lines line is, λ there. refl)
+  inside_line closes (other_table name is other) = over (inr (name, is)) other
+  inside_line closes (commit_line is) = over (inl is) (λ e. omega (arith, ap start (sym is ∙ e)))
+  inside_line passed (empty_line is) = still (rw is)
+  inside_line passed (comment_line comment is) = still (rw is)
+  inside_line (default action) (default_line word a packets bytes target is) = still (rw is)
+  inside_line passed (chain_line name behind named other ended is) = still (rw is)
+  inside_line passed (append_line name behind named other ended is) = still (rw is)
+  inside_line (rule r) (rule_line_lem s said rises) = still (rw said.is)

@@ -31,36 +31,36 @@ use Rattle.iptables.specs.Listing.{
   default,
   rule,
   passed,
-  isFilter,
-  lineRead,
+  is_filter,
+  line_read,
   Found,
-  nothingFound,
-  goesInside,
-  withLine,
+  nothing_found,
+  goes_inside,
+  with_line,
   stepped,
-  firstOnly,
-  justOne,
-  contentsOf,
+  first_only,
+  just_one,
+  contents_of,
   gathered,
-  readFrom,
-  listingRead,
+  read_from,
+  listing_read,
 }
 use Rattle.iptables.specs.Properties.{
   Is,
   Inside,
-  ruleIn,
-  defaultIn,
+  rule_in,
+  default_in,
   Passes,
   no_line,
-  line-outside,
-  line-inside,
+  line_outside,
+  line_inside,
   Accepts,
   Reaches,
   ListingTurned,
-  not-read,
-  low-above,
+  not_read,
+  low_above,
   cut_short,
-  not-just-one,
+  not_just_one,
   too_many,
   too_long,
 }
@@ -74,8 +74,8 @@ abbrev pub found : Bool → List Rule → List Action → Found
 found inside rules defaults = record { inside = inside; rules = rules; defaults = defaults }
 
 with_line_lem : (inside : Bool) (rules : List Rule) (defaults : List Action) (l : Line) → let f = found inside rules defaults in
-    withLine f l ≡ found (withLine f l).inside (rules ++ ruleIn l) (defaults ++ defaultIn l)
-unfolding withLine ruleIn defaultIn
+    with_line f l ≡ found (with_line f l).inside (rules ++ rule_in l) (defaults ++ default_in l)
+unfolding with_line rule_in default_in
 with_line_lem inside rules defaults opens = rw (append-nil rules, append-nil defaults)
 with_line_lem inside rules defaults closes = rw (append-nil rules, append-nil defaults)
 with_line_lem inside rules defaults (default action) = rw (append-nil rules)
@@ -83,56 +83,56 @@ with_line_lem inside rules defaults (rule r) = rw (append-nil defaults)
 with_line_lem inside rules defaults passed = rw (append-nil rules, append-nil defaults)
 
 -- A line outside of the part, a line of it that is read, and one that isn't.
-step_outside : (f : Found) (line : List ℕ) → f.inside ≡ false → stepped f line ≡ good (goesInside (isFilter line) f)
+step_outside : (f : Found) (line : List ℕ) → f.inside ≡ false → stepped f line ≡ good (goes_inside (is_filter line) f)
 unfolding stepped
 step_outside f line out = rw out
 
-step_inside : (f : Found) (line : List ℕ) (l : Line) → f.inside ≡ true → lineRead line ≡ good l → stepped f line ≡ good (withLine f l)
+step_inside : (f : Found) (line : List ℕ) (l : Line) → f.inside ≡ true → line_read line ≡ good l → stepped f line ≡ good (with_line f l)
 unfolding stepped
 step_inside f line l was read = rw (was, read)
 
-step_turned : (f : Found) (line : List ℕ) (why : Why) → f.inside ≡ true → lineRead line ≡ bad why → stepped f line ≡ bad why
+step_turned : (f : Found) (line : List ℕ) (why : Why) → f.inside ≡ true → line_read line ≡ bad why → stepped f line ≡ bad why
 unfolding stepped
 step_turned f line why was read = rw (was, read)
 
 -- Lines lead the reader to what is found of them.
 record Through (lines : List (List ℕ)) (f : Found) : Type 0 where
   inside : Says f.inside (Inside lines)
-  reads : (rest : List (List ℕ)) → readFrom 1 nothingFound (lines ++ rest) ≡ readFrom (suc (length lines)) f rest
+  reads : (rest : List (List ℕ)) → read_from 1 nothing_found (lines ++ rest) ≡ read_from (suc (length lines)) f rest
 
-through_none : Through [] nothingFound
-unfolding nothingFound
+through_none : Through [] nothing_found
+unfolding nothing_found
 through_none = record { inside = (λ t. never t refl, λ h. absurd (inside_none h)); reads = λ rest. refl }
 
 through_one : (lines : List (List ℕ)) (line : List ℕ) (f g : Found) → Through lines f → stepped f line ≡ good g
     → Says g.inside (Inside (and_one lines line)) → Through (and_one lines line) g
-unfolding readFrom
+unfolding read_from
 through_one lines line f g t step says =
     record {
       inside = says;
       reads =
           λ rest.
           let counted : length (and_one lines line) ≡ suc (length lines) = omega (arith, length-append lines (line ∷ [])) in
-          rw (append_assoc lines (line ∷ []) rest, counted) (t.reads (line ∷ rest) ∙ rw (step, readFrom));
+          rw (append_assoc lines (line ∷ []) rest, counted) (t.reads (line ∷ rest) ∙ rw (step, read_from));
     }
 
 passes_through : (lines : List (List ℕ)) (rules : List Rule) (defaults : List Action) → Passes lines rules defaults
     → (inside : Bool) × Through lines (found inside rules defaults)
-unfolding nothingFound
+unfolding nothing_found
 passes_through [] [] [] no_line = (false, through_none)
-passes_through _ rules defaults (line-outside lines _ _ line p out) =
+passes_through _ rules defaults (line_outside lines _ _ line p out) =
     let (inside, t) = passes_through lines rules defaults p in
     let f = found inside rules defaults in
     let read = step_outside f line (not_says t.inside out) in
-    (isFilter line, through_one lines line f (goesInside (isFilter line) f) t read (outside_line lines line out))
-passes_through _ _ _ (line-inside lines rules defaults line l p h is) =
+    (is_filter line, through_one lines line f (goes_inside (is_filter line) f) t read (outside_line lines line out))
+passes_through _ _ _ (line_inside lines rules defaults line l p h is) =
     let (inside, t) = passes_through lines rules defaults p in
     let f = found inside rules defaults in
     let was = t.inside.1 h in
     let read = step_inside f line l was ((line_is_lem line l).1 is) in (
-      (withLine f l).inside,
+      (with_line f l).inside,
       subst (Through (and_one lines line)) (with_line_lem inside rules defaults l)
-          (through_one lines line f (withLine f l) t read (inside_line lines line f was h l is)),
+          (through_one lines line f (with_line f l) t read (inside_line lines line f was h l is)),
     )
 
 -- Whether the part is open behind lines that pass.
@@ -142,17 +142,17 @@ open_or_not {lines} {rules} {defaults} p stands ended =
     let (inside, t) = passes_through lines rules defaults p in
     by_test inside (λ is. stands (t.inside.0 is)) (λ is. ended (says_not t.inside is))
 
-by_line {ℓ} : {A : Type ℓ} (line : List ℕ) → ((l : Line) → Is line l → A) → ((why : Why) → lineRead line ≡ bad why → A) → A
-by_line {A} line is turned = go (lineRead line) refl
+by_line {ℓ} : {A : Type ℓ} (line : List ℕ) → ((l : Line) → Is line l → A) → ((why : Why) → line_read line ≡ bad why → A) → A
+by_line {A} line is turned = go (line_read line) refl
   where
-    go : (read : Checked Line) → lineRead line ≡ read → A
+    go : (read : Checked Line) → line_read line ≡ read → A
     go (good l) e = is l ((line_is_lem line l).0 e)
     go (bad why) e = turned why e
 
 -- Every listing's lines pass, or lines that pass reach one of the part that isn't read.
 pub by_lines {ℓ} : {A : Type ℓ} (listing : List ℕ)
     → ((rules : List Rule) (defaults : List Action) → Passes (lines_of listing) rules defaults → A)
-    → ((line : List ℕ) (at : ℕ) (why : Why) → Reaches listing line at → lineRead line ≡ bad why → A) → A
+    → ((line : List ℕ) (at : ℕ) (why : Why) → Reaches listing line at → line_read line ≡ bad why → A) → A
 by_lines {A} listing whole stops = go [] (lines_of listing) [] [] refl no_line
   where
     go : (front back : List (List ℕ)) (rules : List Rule) (defaults : List Action) → lines_of listing ≡ front ++ back
@@ -162,77 +162,77 @@ by_lines {A} listing whole stops = go [] (lines_of listing) [] [] refl no_line
         let next : lines_of listing ≡ and_one front line ++ back = is ∙ sym (append_assoc front (line ∷ []) back) in
         open_or_not p
         (λ h. by_line line
-        (λ l says. go (and_one front line) back _ _ next (line-inside front rules defaults line l p h says))
+        (λ l says. go (and_one front line) back _ _ next (line_inside front rules defaults line l p h says))
         (λ why turned.
         stops line (suc (length front)) why
         (record { front = front; back = back; rules = rules; defaults = defaults; is = is; passes = p; inside = h; counted = refl })
         turned))
-        (λ out. go (and_one front line) back rules defaults next (line-outside front rules defaults line p out))
+        (λ out. go (and_one front line) back rules defaults next (line_outside front rules defaults line p out))
 
 -- What is read: of lines that pass, at their end, and of those that reach a line that isn't read.
 module _ (listing : List ℕ) where
   pub cut_read : (rules : List Rule) (defaults : List Action) → Passes (lines_of listing) rules defaults → Inside (lines_of listing)
-      → listingRead listing ≡ refused (record { why = NotRead; at = suc (length (lines_of listing)) })
-  unfolding listingRead readFrom
+      → listing_read listing ≡ refused (record { why = NotRead; at = suc (length (lines_of listing)) })
+  unfolding listing_read read_from
   cut_read rules defaults p h =
       let (inside, t) = passes_through (lines_of listing) rules defaults p in
-      ap (readFrom 1 nothingFound) (sym (append-nil (lines_of listing))) ∙ t.reads [] ∙ rw (t.inside.1 h)
+      ap (read_from 1 nothing_found) (sym (append-nil (lines_of listing))) ∙ t.reads [] ∙ rw (t.inside.1 h)
 
   pub whole_read : (rules : List Rule) (defaults : List Action) → Passes (lines_of listing) rules defaults → ¬ Inside (lines_of listing)
-      → listingRead listing ≡ at_zero (gathered (found false rules defaults))
-  unfolding listingRead readFrom
+      → listing_read listing ≡ at_zero (gathered (found false rules defaults))
+  unfolding listing_read read_from
   whole_read rules defaults p ended =
       let (inside, t) = passes_through (lines_of listing) rules defaults p in
-      ap (readFrom 1 nothingFound) (sym (append-nil (lines_of listing))) ∙ t.reads [] ∙ rw (not_says t.inside ended)
+      ap (read_from 1 nothing_found) (sym (append-nil (lines_of listing))) ∙ t.reads [] ∙ rw (not_says t.inside ended)
 
-  pub stopped_read : (line : List ℕ) (at : ℕ) (why : Why) → Reaches listing line at → lineRead line ≡ bad why
-      → listingRead listing ≡ refused (record { why = why; at = at })
-  unfolding listingRead readFrom
+  pub stopped_read : (line : List ℕ) (at : ℕ) (why : Why) → Reaches listing line at → line_read line ≡ bad why
+      → listing_read listing ≡ refused (record { why = why; at = at })
+  unfolding listing_read read_from
   stopped_read line at why r turned =
       let (inside, t) = passes_through r.front r.rules r.defaults r.passes in
       let f = found inside r.rules r.defaults in
-      ap (readFrom 1 nothingFound) r.is ∙ t.reads (line ∷ r.back)
-      ∙ rw (step_turned f line why (t.inside.1 r.inside) turned, readFrom, r.counted)
+      ap (read_from 1 nothing_found) r.is ∙ t.reads (line ∷ r.back)
+      ∙ rw (step_turned f line why (t.inside.1 r.inside) turned, read_from, r.counted)
 
 -- What is gathered at the end: the tests in their order, and what each gives.
 module _ (inside : Bool) (rules : List Rule) where
   gathered_tested {ℓ} : (Right : Checked Contents → Type ℓ) (defaults : List Action) → (length defaults ≢ 1 → Right (bad NotRead))
-      → ((action : Action) → defaults ≡ action ∷ [] → most_rules < length (firstOnly [] rules) → Right (bad TooMany))
-      → ((action : Action) → defaults ≡ action ∷ [] → length (firstOnly [] rules) ≤ most_rules → most_listed < length (firstOnly [] rules)
+      → ((action : Action) → defaults ≡ action ∷ [] → most_rules < length (first_only [] rules) → Right (bad TooMany))
+      → ((action : Action) → defaults ≡ action ∷ [] → length (first_only [] rules) ≤ most_rules → most_listed < length (first_only [] rules)
       → Right (bad Length))
-      → ((action : Action) → defaults ≡ action ∷ [] → length (firstOnly [] rules) ≤ most_listed
-      → Right (good (contentsOf (firstOnly [] rules) action)))
+      → ((action : Action) → defaults ≡ action ∷ [] → length (first_only [] rules) ≤ most_listed
+      → Right (good (contents_of (first_only [] rules) action)))
       → Right (gathered (found inside rules defaults))
-  unfolding gathered justOne
+  unfolding gathered just_one
   gathered_tested Right [] none many long few = none (λ e. omega (arith, e))
   gathered_tested Right (action ∷ []) none many long few =
-      let count = length (firstOnly [] rules) in
+      let count = length (first_only [] rules) in
       tested Right (leb count most_rules) (λ e. many action refl (leb-false count most_rules e)) λ e.
       tested Right (leb count most_listed)
       (λ f. long action refl (leb-true count most_rules e) (leb-false count most_listed f)) λ f.
       few action refl (leb-true count most_listed f)
   gathered_tested Right (action ∷ other ∷ actions) none many long few = none (λ e. omega (arith, e))
 
-  gathered_few : (action : Action) → length (firstOnly [] rules) ≤ most_listed
-      → gathered (found inside rules (action ∷ [])) ≡ good (contentsOf (firstOnly [] rules) action)
-  unfolding gathered justOne
+  gathered_few : (action : Action) → length (first_only [] rules) ≤ most_listed
+      → gathered (found inside rules (action ∷ [])) ≡ good (contents_of (first_only [] rules) action)
+  unfolding gathered just_one
   gathered_few action few =
-      let count = length (firstOnly [] rules) in rw (le-leb count most_rules (omega arith), le-leb count most_listed few)
+      let count = length (first_only [] rules) in rw (le-leb count most_rules (omega arith), le-leb count most_listed few)
 
   gathered_none : (defaults : List Action) → length defaults ≢ 1 → gathered (found inside rules defaults) ≡ bad NotRead
   gathered_none defaults other =
       gathered_tested (λ read. read ≡ bad NotRead) defaults (λ none. refl) (λ action is many. absurd (other (ap length is)))
       (λ action is fits long. absurd (other (ap length is))) (λ action is few. absurd (other (ap length is)))
 
-  gathered_many : (action : Action) → most_rules < length (firstOnly [] rules) → gathered (found inside rules (action ∷ [])) ≡ bad TooMany
-  unfolding gathered justOne
-  gathered_many action many = rw (lt-leb (length (firstOnly [] rules)) most_rules many)
+  gathered_many : (action : Action) → most_rules < length (first_only [] rules) → gathered (found inside rules (action ∷ [])) ≡ bad TooMany
+  unfolding gathered just_one
+  gathered_many action many = rw (lt-leb (length (first_only [] rules)) most_rules many)
 
-  gathered_long : (action : Action) → length (firstOnly [] rules) ≤ most_rules → most_listed < length (firstOnly [] rules)
+  gathered_long : (action : Action) → length (first_only [] rules) ≤ most_rules → most_listed < length (first_only [] rules)
       → gathered (found inside rules (action ∷ [])) ≡ bad Length
-  unfolding gathered justOne
+  unfolding gathered just_one
   gathered_long action fits long =
-      let count = length (firstOnly [] rules) in rw (le-leb count most_rules fits, lt-leb count most_listed long)
+      let count = length (first_only [] rules) in rw (le-leb count most_rules fits, lt-leb count most_listed long)
 
 -- A line is read or it isn't, a listing is accepted or refused, not both.
 good_not_bad {ℓ} : {A : Type ℓ} {T : Type 0} {a : T} {why : Why} → good a ≡ bad why → A
@@ -242,20 +242,20 @@ refused_not_accepted {ℓ} : {A : Type ℓ} {c : Contents} {refusal : Refusal} �
 refused_not_accepted {c} {refusal} e = absurd (let z : ◌≡◌ {A = ℕ} 0 1 = cc in omega arith)
 
 -- A line that isn't read is a row of the table ..
-stopped_row : (listing line : List ℕ) (at : ℕ) (why : Why) → Reaches listing line at → lineRead line ≡ bad why
+stopped_row : (listing line : List ℕ) (at : ℕ) (why : Why) → Reaches listing line at → line_read line ≡ bad why
     → ListingTurned listing (why_number why) at
 stopped_row listing line at why r turned =
     ⊎_elim
     (λ is. rw is
-    (not-read line at r (λ l says. good_not_bad (sym ((line_is_lem line l).1 says) ∙ turned))
+    (not_read line at r (λ l says. good_not_bad (sym ((line_is_lem line l).1 says) ∙ turned))
     (λ low. let above = (line_low_above line).1 low in let same : LowAbove ≡ NotRead = cc in absurd (omega (arith, ap why_number same)))))
-    (λ is. rw is (low-above line at r ((line_low_above line).0 (turned ∙ ap bad is))))
+    (λ is. rw is (low_above line at r ((line_low_above line).0 (turned ∙ ap bad is))))
     (line_not_read line why turned)
 
 -- .. and so is each other refusal: whatever is answered is right.
 answer_right {ℓ} : (Right : Reading → Type ℓ) (listing : List ℕ) → ((c : Contents) → Accepts listing c → Right (accepted c))
     → ((why : Why) (at : ℕ) → ListingTurned listing (why_number why) at → Right (refused (record { why = why; at = at })))
-    → Right (listingRead listing)
+    → Right (listing_read listing)
 unfolding at_zero
 answer_right Right listing right turned =
     by_lines listing
@@ -263,10 +263,10 @@ answer_right Right listing right turned =
     (λ cut. rw (cut_read listing rules defaults p cut) (turned NotRead _ (cut_short rules defaults p cut)))
     (λ whole. rw (whole_read listing rules defaults p whole)
     (gathered_tested false rules (λ g. Right (at_zero g)) defaults
-    (λ none. turned NotRead 0 (not-just-one rules defaults p whole none))
+    (λ none. turned NotRead 0 (not_just_one rules defaults p whole none))
     (λ action is many. turned TooMany 0 (too_many rules action (rw (← is) p) whole many))
     (λ action is fits long. turned Length 0 (too_long rules action (rw (← is) p) whole fits long))
-    (λ action is few. right (contentsOf (firstOnly [] rules) action)
+    (λ action is few. right (contents_of (first_only [] rules) action)
     (record { rules = rules; action = action; passes = rw (← is) p; whole = whole; few = few; is = refl })))))
     (λ line at why r e. rw (stopped_read listing line at why r e) (turned why at (stopped_row listing line at why r e)))
 
@@ -280,18 +280,18 @@ listing_accepted listing c = (
 )
 
 -- Each row of the table is the answer.
-row_read : (listing : List ℕ) (number at : ℕ) → ListingTurned listing number at → reading_numbers (listingRead listing) ≡ number ∷ at ∷ []
+row_read : (listing : List ℕ) (number at : ℕ) → ListingTurned listing number at → reading_numbers (listing_read listing) ≡ number ∷ at ∷ []
 unfolding reading_numbers refusal_numbers at_zero
-row_read listing _ _ (not-read line at r none low) =
+row_read listing _ _ (not_read line at r none low) =
     by_line line (λ l says. absurd (none l says))
     (λ why turned. ⊎_elim
     (λ is. ap reading_numbers (stopped_read listing line at NotRead r (turned ∙ ap bad is)))
     (λ is. absurd (low ((line_low_above line).0 (turned ∙ ap bad is))))
     (line_not_read line why turned))
-row_read listing _ _ (low-above line at r low) =
+row_read listing _ _ (low_above line at r low) =
     ap reading_numbers (stopped_read listing line at LowAbove r ((line_low_above line).1 low))
 row_read listing _ _ (cut_short rules defaults p cut) = ap reading_numbers (cut_read listing rules defaults p cut)
-row_read listing _ _ (not-just-one rules defaults p whole other) =
+row_read listing _ _ (not_just_one rules defaults p whole other) =
     ap reading_numbers (whole_read listing rules defaults p whole ∙ ap at_zero (gathered_none false rules defaults other))
 row_read listing _ _ (too_many rules action p whole many) =
     ap reading_numbers (whole_read listing rules (action ∷ []) p whole ∙ ap at_zero (gathered_many false rules action many))
@@ -310,18 +310,18 @@ pub cut_short_refused : CutShortRefused
 cut_short_refused listing c cut read = ((listing_accepted listing c).0 read).whole cut
 
 -- A listing whose lines pass with one default is brought in as their rules and that default.
-brought_in_as : (listing : List ℕ) (c : Contents) (rules : List Rule) (action : Action) → listingRead listing ≡ accepted c
-    → Passes (lines_of listing) rules (action ∷ []) → c ≡ contentsOf (firstOnly [] rules) action
+brought_in_as : (listing : List ℕ) (c : Contents) (rules : List Rule) (action : Action) → listing_read listing ≡ accepted c
+    → Passes (lines_of listing) rules (action ∷ []) → c ≡ contents_of (first_only [] rules) action
 unfolding at_zero
 brought_in_as listing c rules action read p =
     let whole : ¬ Inside (lines_of listing) = λ cut. cut_short_refused listing c cut read in
-    gathered_tested false rules (λ g. at_zero g ≡ accepted c → c ≡ contentsOf (firstOnly [] rules) action) (action ∷ [])
+    gathered_tested false rules (λ g. at_zero g ≡ accepted c → c ≡ contents_of (first_only [] rules) action) (action ∷ [])
     (λ none. absurd (none refl)) (λ a is many e. refused_not_accepted e) (λ a is fits long e. refused_not_accepted e)
-    (λ a is few e. let one : a ≡ action = cc in let same : contentsOf (firstOnly [] rules) a ≡ c = cc in rw (← one) (sym same))
+    (λ a is few e. let one : a ≡ action = cc in let same : contents_of (first_only [] rules) a ≡ c = cc in rw (← one) (sym same))
     (sym (whole_read listing rules (action ∷ []) p whole) ∙ read)
 
 pub decided_by_first_line : DecidedByFirstLine
-unfolding contentsOf
+unfolding contents_of
 decided_by_first_line listing c rules action flow read p =
     rw (brought_in_as listing c rules action read p)
-    (decided_by_first (firstOnly [] rules) action flow ∙ later_ones_never_decide rules action flow, refl)
+    (decided_by_first (first_only [] rules) action flow ∙ later_ones_never_decide rules action flow, refl)

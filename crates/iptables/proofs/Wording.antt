@@ -30,19 +30,19 @@ use Rattle.iptables.specs.Words.{
   slash,
   colon,
   parted,
-  piecesBehind,
+  pieces_behind,
   cut_at,
-  numberIn,
-  addressFrom,
+  number_in,
+  address_from,
   dotted,
   hosts,
   masked,
   mask_of,
   address_of,
-  portsFrom,
-  portsOf,
-  numberedProtocol,
-  protocolOf,
+  ports_from,
+  ports_of,
+  numbered_protocol,
+  protocol_of,
   meant,
   full,
 }
@@ -89,20 +89,20 @@ decimal_plain by n other t =
 abbrev pub Number : ℕ → ℕ → List ℕ → ℕ → Type 0
 Number low high word n = (word ≡ decimal n) × (low ≤ n) × (n ≤ high)
 
-pub number_reads : (low high : ℕ) (word : List ℕ) → Reads (Number low high word) (numberIn low high word)
-unfolding numberIn
+pub number_reads : (low high : ℕ) (word : List ℕ) → Reads (Number low high word) (number_in low high word)
+unfolding number_in
 number_reads low high word =
     by_option (number_of word)
-    (λ not. rw (not, numberIn) refl)
+    (λ not. rw (not, number_in) refl)
     (λ n is.
-    rw (is, numberIn)
+    rw (is, number_in)
     (tested (Reads (Number low high word)) (leb low n && leb n high) (λ f. refl) λ t.
     let both = and_both (leb low n) (leb n high) t in
     (number_of_is word n is, leb-true low n both.0, leb-true n high both.1)))
 
-pub number_read_lem : (low high n : ℕ) → low ≤ n → n ≤ high → numberIn low high (decimal n) ≡ good n
-unfolding numberIn
-number_read_lem low high n above below = rw (number_of_decimal n, numberIn) (rw (le-leb low n above, le-leb n high below))
+pub number_read_lem : (low high n : ℕ) → low ≤ n → n ≤ high → number_in low high (decimal n) ≡ good n
+unfolding number_in
+number_read_lem low high n above below = rw (number_of_decimal n, number_in) (rw (le-leb low n above, le-leb n high below))
 
 -- numbers with a byte between each two that is no digit
 pub numbers_parted : (by n : ℕ) (numbers : List ℕ) → is_digit by ≡ false
@@ -119,15 +119,15 @@ NumbersFrom zero address pieces found = (pieces ≡ []) × (found ≡ address)
 NumbersFrom (suc left) address pieces found =
     (n : ℕ) × (behind : List (List ℕ)) × (n ≤ 255) × (pieces ≡ decimal n ∷ behind) × NumbersFrom left (address * 256 + n) behind found
 
-numbers_read : (left address : ℕ) (pieces : List (List ℕ)) → Reads (NumbersFrom left address pieces) (addressFrom left address pieces)
-unfolding addressFrom
+numbers_read : (left address : ℕ) (pieces : List (List ℕ)) → Reads (NumbersFrom left address pieces) (address_from left address pieces)
+unfolding address_from
 numbers_read zero address [] = (refl, refl)
 numbers_read zero address (piece ∷ pieces) = refl
 numbers_read (suc left) address [] = refl
 numbers_read (suc left) address (piece ∷ pieces) =
     let Found = NumbersFrom (suc left) address (piece ∷ pieces) in
-    reads_then (Number 0 255 piece) Found (numberIn 0 255 piece) _ (number_reads 0 255 piece) λ n is.
-    reads_map (NumbersFrom left (address * 256 + n) pieces) Found (addressFrom left (address * 256 + n) pieces)
+    reads_then (Number 0 255 piece) Found (number_in 0 255 piece) _ (number_reads 0 255 piece) λ n is.
+    reads_map (NumbersFrom left (address * 256 + n) pieces) Found (address_from left (address * 256 + n) pieces)
     (λ found others. (n, pieces, is.2, ap (λ (p : List ℕ). p ∷ pieces) is.0, others))
     (numbers_read left (address * 256 + n) pieces)
 
@@ -166,14 +166,14 @@ four_numbers word address (a, p, a_fits, is-a, (b, q, b_fits, is_b, (c, r, c_fit
 dotted_reads : (word : List ℕ) → Reads (Dotted word) (dotted word)
 unfolding dotted
 dotted_reads word =
-    reads_map (NumbersFrom 4 0 (parted dot word)) (Dotted word) (addressFrom 4 0 (parted dot word)) (four_numbers word)
+    reads_map (NumbersFrom 4 0 (parted dot word)) (Dotted word) (address_from 4 0 (parted dot word)) (four_numbers word)
     (numbers_read 4 0 (parted dot word))
 
 module _ (a b c d : ℕ) (a_fits : a ≤ 255) (b_fits : b ≤ 255) (c_fits : c ≤ 255) (d_fits : d ≤ 255) where
   dotted_read : dotted (dotted_text a b c d) ≡ good (address_number a b c d)
-  unfolding dotted addressFrom joined_by text is_digit
+  unfolding dotted address_from joined_by text is_digit
   dotted_read =
-      let fits : (n : ℕ) → n ≤ 255 → numberIn 0 255 (decimal n) ≡ good n = λ n. number_read_lem 0 255 n (omega arith) in
+      let fits : (n : ℕ) → n ≤ 255 → number_in 0 255 (decimal n) ≡ good n = λ n. number_read_lem 0 255 n (omega arith) in
       rw (numbers_parted dot a (b ∷ c ∷ d ∷ []) refl, fits a a_fits, fits b b_fits, fits c c_fits, fits d d_fits) (ap good (omega arith))
 
   number_small : address_number a b c d ≤ 256 ^ 4 - 1
@@ -200,7 +200,7 @@ mask_reads : (masks : List (List ℕ)) → Reads (IsMask masks) (mask_of masks)
 unfolding mask_of
 mask_reads [] = (omega arith, inl (refl, refl))
 mask_reads (mask ∷ []) =
-    reads_map (Number 0 32 mask) (IsMask (mask ∷ [])) (numberIn 0 32 mask) (λ n is. (is.2, inr (ap (λ (m : List ℕ). m ∷ []) is.0)))
+    reads_map (Number 0 32 mask) (IsMask (mask ∷ [])) (number_in 0 32 mask) (λ n is. (is.2, inr (ap (λ (m : List ℕ). m ∷ []) is.0)))
     (number_reads 0 32 mask)
 mask_reads (mask ∷ other ∷ pieces) = refl
 
@@ -215,7 +215,7 @@ address_reads : (word : List ℕ) → Reads (IsAddress word) (address_of word)
 unfolding address_of
 address_reads word =
     let address = take (cut_at slash word) word in
-    let masks = piecesBehind slash (drop (cut_at slash word) word) in
+    let masks = pieces_behind slash (drop (cut_at slash word) word) in
     let cut : parted slash word ≡ address ∷ masks = parted_cut slash word in
     rw (cut, address_of)
     (reads_then (Dotted address) (IsAddress word) (dotted address) _ (dotted_reads address) λ number numbered.
@@ -249,24 +249,24 @@ address_read word range h =
     h.is
 
 -- Ports.
-ports_from_lem : (word : List ℕ) (pieces : List (List ℕ)) → word ≡ joined_by colon pieces → Reads (IsPorts word) (portsFrom pieces)
-unfolding portsFrom joined_by text
+ports_from_lem : (word : List ℕ) (pieces : List (List ℕ)) → word ≡ joined_by colon pieces → Reads (IsPorts word) (ports_from pieces)
+unfolding ports_from joined_by text
 ports_from_lem word [] is = refl
 ports_from_lem word (port ∷ []) is =
-    reads_then (Number 0 65535 port) (IsPorts word) (numberIn 0 65535 port) _ (number_reads 0 65535 port) λ n one.
+    reads_then (Number 0 65535 port) (IsPorts word) (number_in 0 65535 port) _ (number_reads 0 65535 port) λ n one.
     (one.2, one.2, inl (is ∙ one.0, refl))
 ports_from_lem word (low ∷ high ∷ []) is =
-    reads_then (Number 0 65535 low) (IsPorts word) (numberIn 0 65535 low) _ (number_reads 0 65535 low) λ l first.
-    reads_then (Number 0 65535 high) (IsPorts word) (numberIn 0 65535 high) _ (number_reads 0 65535 high) λ h second.
+    reads_then (Number 0 65535 low) (IsPorts word) (number_in 0 65535 low) _ (number_reads 0 65535 low) λ l first.
+    reads_then (Number 0 65535 high) (IsPorts word) (number_in 0 65535 high) _ (number_reads 0 65535 high) λ h second.
     (first.2, second.2, inr (rw (first.0, second.0) at is))
 ports_from_lem word (low ∷ high ∷ other ∷ pieces) is = refl
 
-ports_reads : (word : List ℕ) → Reads (IsPorts word) (portsOf word)
-unfolding portsOf
+ports_reads : (word : List ℕ) → Reads (IsPorts word) (ports_of word)
+unfolding ports_of
 ports_reads word = ports_from_lem word (parted colon word) (put_together colon word (parted colon word) refl)
 
-ports_read : (word : List ℕ) (range : Range) → IsPorts word range → portsOf word ≡ good range
-unfolding portsOf portsFrom joined_by text is_digit
+ports_read : (word : List ℕ) (range : Range) → IsPorts word range → ports_of word ≡ good range
+unfolding ports_of ports_from joined_by text is_digit
 ports_read word range (low_fits, high_fits, inl (one, alike)) =
     rw (one, numbers_parted colon range.low [] refl, number_read_lem 0 65535 range.low (omega arith) low_fits)
     (λ i. good (record { low = range.low; high = sym alike i }))
@@ -283,18 +283,18 @@ no_name : (n : ℕ) (name : List ℕ) → number_of name ≡ none → same (deci
 no_name n name other =
     not_says (says_same (decimal n) name) (λ e. none_some (sym other ∙ ap number_of (sym e) ∙ number_of_decimal n))
 
-protocol_reads : (word : List ℕ) → Reads (IsProtocol word) (protocolOf word)
-unfolding protocolOf numberedProtocol
+protocol_reads : (word : List ℕ) → Reads (IsProtocol word) (protocol_of word)
+unfolding protocol_of numbered_protocol
 protocol_reads word =
     by_test (same word (text "tcp")) (λ t. rw t (6, refl, inl (same_eq word (text "tcp") t, refl))) λ f.
     by_test (same word (text "udp")) (λ t. rw (f, t) (17, refl, inr (inl (same_eq word (text "udp") t, refl)))) λ g.
     by_test (same word (text "icmp")) (λ t. rw (f, g, t) (1, refl, inr (inr (inl (same_eq word (text "icmp") t, refl))))) λ h.
     rw (f, g, h)
-    (reads_then (Number 1 255 word) (IsProtocol word) (numberIn 1 255 word) _ (number_reads 1 255 word) λ n is.
+    (reads_then (Number 1 255 word) (IsProtocol word) (number_in 1 255 word) _ (number_reads 1 255 word) λ n is.
     (n, refl, inr (inr (inr is))))
 
-protocol_read : (word : List ℕ) (range : Range) → IsProtocol word range → protocolOf word ≡ good range
-unfolding protocolOf numberedProtocol same text number_of numeral_read is_digit
+protocol_read : (word : List ℕ) (range : Range) → IsProtocol word range → protocol_of word ≡ good range
+unfolding protocol_of numbered_protocol same text number_of numeral_read is_digit
 protocol_read word range (n, means, inl (is, six)) = rw (is, means, six)
 protocol_read word range (n, means, inr (inl (is, seventeen))) = rw (is, means, seventeen)
 protocol_read word range (n, means, inr (inr (inl (is, one)))) = rw (is, means, one)

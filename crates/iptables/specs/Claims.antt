@@ -30,7 +30,7 @@ use Rattle.iptables.specs.Properties.{
   LowIsAbove,
   Accepts,
   ListingTurned,
-  byFirst,
+  by_first,
 }
 use Rattle.iptables.specs.declared.Kind.{Kind}
 
@@ -99,7 +99,7 @@ FileFits = (listing : List ℕ) (c : Contents) → listing_read listing ≡ acce
 abbrev pub DecidedByFirstLine : Type 0
 DecidedByFirstLine = (listing : List ℕ) (c : Contents) (rules : List Rule) (action : Action) (flow : Flow) → listing_read listing ≡ accepted c
     → Passes (lines_of listing) rules (action ∷ [])
-    → (decided (matching c.catalogue flow) (initial_policy c) ≡ byFirst rules action flow) × (target_policy c ≡ initial_policy c)
+    → (decided (matching c.catalogue flow) (initial_policy c) ≡ by_first rules action flow) × (target_policy c ≡ initial_policy c)
 
 -- The entry: "Nothing is written before all have passed" ..
 abbrev pub FileKeepsPlace : Type 0

@@ -28,13 +28,13 @@ use Rattle.iptables.specs.Listing.{
   rule,
   passed,
   Found,
-  nothingFound,
-  goesInside,
-  withLine,
-  keptWith,
-  firstOnly,
-  isFilter,
-  lineRead,
+  nothing_found,
+  goes_inside,
+  with_line,
+  kept_with,
+  first_only,
+  is_filter,
+  line_read,
   stepped,
 }
 use Rattle.iptables.proofs.FirstPlaces.{one_more_rule}
@@ -70,24 +70,24 @@ told_back (good (rule r)) = refl
 told_back (good passed) = refl
 told_back (bad why) = refl
 
-read_as_lem : (line : List ℕ) {is : lines.Line} → line_told (lineRead line) ≡ is → lineRead line ≡ read_as is (rule_told (lineRead line))
-read_as_lem line e = rw e at (told_back (lineRead line))
+read_as_lem : (line : List ℕ) {is : lines.Line} → line_told (line_read line) ≡ is → line_read line ≡ read_as is (rule_told (line_read line))
+read_as_lem line e = rw e at (told_back (line_read line))
 
 -- the rule of a rule line fits into a record
-pub told_recordable : (line : List ℕ) → line_told (lineRead line) ≡ told.Rule → Recordable (rule_told (lineRead line))
+pub told_recordable : (line : List ℕ) → line_told (line_read line) ≡ told.Rule → Recordable (rule_told (line_read line))
 unfolding read_as
-told_recordable line e = rule_recordable line (rule_told (lineRead line)) (read_as_lem line e)
+told_recordable line e = rule_recordable line (rule_told (line_read line)) (read_as_lem line e)
 
 -- a line of the part, and one outside
-steps_inside : (f : Found) (line : List ℕ) (l : Line) → f.inside ≡ true → lineRead line ≡ good l → stepped f line ≡ good (withLine f l)
+steps_inside : (f : Found) (line : List ℕ) (l : Line) → f.inside ≡ true → line_read line ≡ good l → stepped f line ≡ good (with_line f l)
 unfolding stepped
 steps_inside f line l inside read = rw (inside, read)
 
-turns_inside : (f : Found) (line : List ℕ) (why : Why) → f.inside ≡ true → lineRead line ≡ bad why → stepped f line ≡ bad why
+turns_inside : (f : Found) (line : List ℕ) (why : Why) → f.inside ≡ true → line_read line ≡ bad why → stepped f line ≡ bad why
 unfolding stepped
 turns_inside f line why inside read = rw (inside, read)
 
-steps_outside : (f : Found) (line : List ℕ) → f.inside ≡ false → stepped f line ≡ good (goesInside (isFilter line) f)
+steps_outside : (f : Found) (line : List ℕ) → f.inside ≡ false → stepped f line ≡ good (goes_inside (is_filter line) f)
 unfolding stepped
 steps_outside f line outside = rw outside
 
@@ -108,8 +108,8 @@ last_alone (first ∷ defaults) last action e =
 
 -- Nothing is seen at the start.
 pub nothing_seen : (listing marks starts : List ℕ) → length marks ≡ most_rules → length starts ≡ most_rules
-    → FoundAs listing marks starts (record { inside = false; defaults = 0; permits = false; rules = 0 }) nothingFound
-unfolding nothingFound firstOnly marks_at
+    → FoundAs listing marks starts (record { inside = false; defaults = 0; permits = false; rules = 0 }) nothing_found
+unfolding nothing_found first_only marks_at
 nothing_seen listing marks starts marks-fit starts_fit =
     record {
       inside = refl;
@@ -129,43 +129,43 @@ nothing_seen listing marks starts marks-fit starts_fit =
 
 module _ {listing marks starts : List ℕ} {seen : Seen} {f : Found} (so_far : FoundAs listing marks starts seen f) where
   -- no rule and no default
-  going_on_lem : (inside : Bool) → FoundAs listing marks starts (going_on seen inside).seen (goesInside inside f)
+  going_on_lem : (inside : Bool) → FoundAs listing marks starts (going_on seen inside).seen (goes_inside inside f)
   unfolding going_on
   going_on_lem inside = record { inside = refl; defaults = so_far.defaults; permits = so_far.permits; kept = so_far.kept }
 
-  pub stepped_outside : (line : List ℕ) → seen.inside ≡ false → SteppedAs listing marks starts (stepped f line) (going_on seen (isFilter line))
+  pub stepped_outside : (line : List ℕ) → seen.inside ≡ false → SteppedAs listing marks starts (stepped f line) (going_on seen (is_filter line))
   unfolding going_on
-  stepped_outside line outside = rw (steps_outside f line (sym so_far.inside ∙ outside)) (refl, going_on_lem (isFilter line))
+  stepped_outside line outside = rw (steps_outside f line (sym so_far.inside ∙ outside)) (refl, going_on_lem (is_filter line))
 
   module _ (line : List ℕ) (here : seen.inside ≡ true) where
     found_inside : f.inside ≡ true
     found_inside = sym so_far.inside ∙ here
 
-    pub stepped_open : line_told (lineRead line) ≡ told.Opens → SteppedAs listing marks starts (stepped f line) (going_on seen true)
-    unfolding read_as withLine going_on
+    pub stepped_open : line_told (line_read line) ≡ told.Opens → SteppedAs listing marks starts (stepped f line) (going_on seen true)
+    unfolding read_as with_line going_on
     stepped_open e = rw (steps_inside f line opens found_inside (read_as_lem line e)) (refl, going_on_lem true)
 
-    pub stepped_close : line_told (lineRead line) ≡ told.Closes → SteppedAs listing marks starts (stepped f line) (going_on seen false)
-    unfolding read_as withLine going_on
+    pub stepped_close : line_told (line_read line) ≡ told.Closes → SteppedAs listing marks starts (stepped f line) (going_on seen false)
+    unfolding read_as with_line going_on
     stepped_close e = rw (steps_inside f line closes found_inside (read_as_lem line e)) (refl, going_on_lem false)
 
-    pub stepped_over : line_told (lineRead line) ≡ told.Passed → SteppedAs listing marks starts (stepped f line) (going_on seen true)
-    unfolding read_as withLine going_on
+    pub stepped_over : line_told (line_read line) ≡ told.Passed → SteppedAs listing marks starts (stepped f line) (going_on seen true)
+    unfolding read_as with_line going_on
     stepped_over e =
         rw (steps_inside f line passed found_inside (read_as_lem line e)) (
           refl,
           record { inside = sym found_inside; defaults = so_far.defaults; permits = so_far.permits; kept = so_far.kept },
         )
 
-    pub stepped_turned : (why : Why) → line_told (lineRead line) ≡ told.Turned why
+    pub stepped_turned : (why : Why) → line_told (line_read line) ≡ told.Turned why
         → SteppedAs listing marks starts (stepped f line) (record { checking = checked.Bad why; seen = seen })
     unfolding read_as
     stepped_turned why e = rw (turns_inside f line why found_inside (read_as_lem line e)) refl
 
     -- one default more
-    pub stepped_default : (action : Action) → line_told (lineRead line) ≡ told.Default action
+    pub stepped_default : (action : Action) → line_told (line_read line) ≡ told.Default action
         → SteppedAs listing marks starts (stepped f line) (record { checking = checked.Good; seen = with_default seen action })
-    unfolding read_as withLine with_default
+    unfolding read_as with_line with_default
     stepped_default action e =
         rw (steps_inside f line (default action) found_inside (read_as_lem line e)) (
           refl,
@@ -178,16 +178,16 @@ module _ {listing marks starts : List ℕ} {seen : Seen} {f : Found} (so_far : F
         )
 
     -- one rule more
-    pub stepped_rule : {marks-after starts-after : List ℕ} {count : ℕ} → line_told (lineRead line) ≡ told.Rule
-        → Kept listing marks-after starts-after count (keptWith (firstOnly [] f.rules) (rule_told (lineRead line)))
+    pub stepped_rule : {marks-after starts-after : List ℕ} {count : ℕ} → line_told (line_read line) ≡ told.Rule
+        → Kept listing marks-after starts-after count (kept_with (first_only [] f.rules) (rule_told (line_read line)))
         → SteppedAs listing marks-after starts-after (stepped f line)
         (record {
           checking = checked.Good;
           seen = record { inside = true; defaults = seen.defaults; permits = seen.permits; rules = count };
         })
-    unfolding read_as withLine
+    unfolding read_as with_line
     stepped_rule e kept =
-        let r = rule_told (lineRead line) in
+        let r = rule_told (line_read line) in
         rw (steps_inside f line (rule r) found_inside (read_as_lem line e)) (
           refl,
           record {

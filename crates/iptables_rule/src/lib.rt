@@ -8,31 +8,31 @@ ghost use Rattle.deployment.specs.Checked.{bad};
 ghost use Rattle.deployment.specs.Values.{range_bytes, rule_bytes, rising};
 ghost use Rattle.iptables.specs.Options.{
   even,
-  isOption,
-  rangeGiven,
-  targetGiven,
+  is_option,
+  range_given,
+  target_given,
   target_of,
-  wordsAt,
-  protocolIs,
-  isBehind,
-  portFits,
-  moduleFits,
-  ruleRead,
+  words_at,
+  protocol_is,
+  is_behind,
+  port_fits,
+  module_fits,
+  rule_read,
 };
 ghost use Rattle.lines.specs.Text.{text};
 ghost use Rattle.iptables_words.specs.Told.{range_told};
 ghost use Rattle.iptables_rule.specs.Found.{
-  wordsFrom,
-  givenFrom,
-  withPair,
+  words_from,
+  given_from,
+  with_pair,
   word_of,
   OptionFound,
-  rangeFound,
-  boundsTold,
-  targetTold,
+  range_found,
+  bounds_told,
+  target_told,
   range_of,
-  noRule,
-  ruleReadTold,
+  no_rule,
+  rule_read_told,
 };
 
 use catalogue::Checking;
@@ -80,7 +80,7 @@ pub struct RuleRead {
 // What was found of an option, with one option more: the one looked for, with its word from `start` to `end`, or another.
 fn with_pair(found: Found, is: bool, start: usize, end: usize) -> Found
     requires { found.place < 18446744073709551615 }
-    ensures { result ≡ withPair found is start end }
+    ensures { result ≡ with_pair found is start end }
 {
     if found.times == 0 {
         if is {
@@ -111,7 +111,7 @@ fn with_pair(found: Found, is: bool, start: usize, end: usize) -> Found
 
 // An option looked for among the words behind a position, two by two.
 fn option(line: &[u8], at: usize, name: &[u8]) -> Found
-    ensures { OptionFound line.now name.now (givenFrom at line.now) result }
+    ensures { OptionFound line.now name.now (given_from at line.now) result }
 {
     let mut found = Found {
         times: 0,
@@ -135,7 +135,7 @@ fn option(line: &[u8], at: usize, name: &[u8]) -> Found
 
 // The options that are read.
 fn is_option(name: &[u8]) -> bool
-    ensures { result ≡ isOption name.now }
+    ensures { result ≡ is_option name.now }
 {
     same_bytes(name, b"-s")
         || same_bytes(name, b"-d")
@@ -148,7 +148,7 @@ fn is_option(name: &[u8]) -> bool
 
 // Whether each option behind a position is one that is read, and has its word.
 fn options_known(line: &[u8], at: usize) -> bool
-    ensures { result ≡ (even (wordsFrom at line.now) && all (λ g. isOption g.option) (givenFrom at line.now)) }
+    ensures { result ≡ (even (words_from at line.now) && all (λ g. is_option g.option) (given_from at line.now)) }
 {
     let mut end = at;
     while end < line.len() {
@@ -174,7 +174,7 @@ fn word_of<'a>(line: &'a [u8], found: Found) -> &'a [u8]
 // What an option's range is: the full one where it isn't given, and nothing where it is given twice.
 fn ranged(line: &[u8], found: Found, kind: Kind) -> Ranged
     requires { (found.start ≤ found.end) × (found.end ≤ length line.now) }
-    ensures { result ≡ range_told (rangeFound kind found line.now) }
+    ensures { result ≡ range_told (range_found kind found line.now) }
 {
     if found.times == 0 {
         return full(kind);
@@ -187,7 +187,7 @@ fn ranged(line: &[u8], found: Found, kind: Kind) -> Ranged
 
 // The range of an option that is given at most once.
 fn range_given(line: &[u8], at: usize, name: &[u8], kind: Kind) -> Bounds
-    ensures { result ≡ boundsTold (rangeGiven kind name.now (givenFrom at line.now)) }
+    ensures { result ≡ bounds_told (range_given kind name.now (given_from at line.now)) }
 {
     let range = ranged(line, option(line, at, name), kind);
     let Ranged::Is(low, high) = range else {
@@ -206,7 +206,7 @@ fn range_given(line: &[u8], at: usize, name: &[u8], kind: Kind) -> Bounds
 
 // A target, or the policy of a chain.
 pub fn target_of(word: &[u8]) -> Target
-    ensures { result ≡ targetTold (target_of word.now) }
+    ensures { result ≡ target_told (target_of word.now) }
 {
     if same_bytes(word, b"ACCEPT") {
         return Target::Is(Action::Permit);
@@ -219,7 +219,7 @@ pub fn target_of(word: &[u8]) -> Target
 
 // "Exactly one `-j ACCEPT` or `-j DROP`"
 fn target_given(line: &[u8], at: usize) -> Target
-    ensures { result ≡ targetTold (targetGiven (wordsAt (text "-j") (givenFrom at line.now))) }
+    ensures { result ≡ target_told (target_given (words_at (text "-j") (given_from at line.now))) }
 {
     let found = option(line, at, b"-j");
     if found.times != 1 {
@@ -230,7 +230,7 @@ fn target_given(line: &[u8], at: usize) -> Target
 
 // Whether `-p` has this word.
 fn protocol_is(line: &[u8], at: usize, word: &[u8]) -> bool
-    ensures { result ≡ protocolIs word.now (givenFrom at line.now) }
+    ensures { result ≡ protocol_is word.now (given_from at line.now) }
 {
     let found = option(line, at, b"-p");
     found.times != 0 && same_bytes(word_of(line, found), word)
@@ -238,14 +238,14 @@ fn protocol_is(line: &[u8], at: usize, word: &[u8]) -> bool
 
 // Whether an option stands behind `-p`.
 fn is_behind(line: &[u8], at: usize, name: &[u8]) -> bool
-    ensures { result ≡ isBehind name.now (givenFrom at line.now) }
+    ensures { result ≡ is_behind name.now (given_from at line.now) }
 {
     option(line, at, b"-p").place < option(line, at, name).place
 }
 
 // "only after `-p tcp` or `-p udp` in the line"
 fn port_fits(line: &[u8], at: usize, name: &[u8]) -> bool
-    ensures { result ≡ portFits name.now (givenFrom at line.now) }
+    ensures { result ≡ port_fits name.now (given_from at line.now) }
 {
     if option(line, at, name).times == 0 {
         return true;
@@ -255,7 +255,7 @@ fn port_fits(line: &[u8], at: usize, name: &[u8]) -> bool
 
 // "`-m tcp`, `-m udp`: skipped after the same `-p`"
 fn module_fits(line: &[u8], at: usize) -> bool
-    ensures { result ≡ moduleFits (givenFrom at line.now) }
+    ensures { result ≡ module_fits (given_from at line.now) }
 {
     let found = option(line, at, b"-m");
     if found.times == 0 {
@@ -345,7 +345,7 @@ fn record_of(
 
 // The record of no rule: it stands where none is read.
 pub fn no_record() -> [u8; RULE_BYTES]
-    ensures { result ≡ rule_bytes noRule }
+    ensures { result ≡ rule_bytes no_rule }
 {
     let none = Bounds {
         read: false,
@@ -357,7 +357,7 @@ pub fn no_record() -> [u8; RULE_BYTES]
 
 // A rule line that isn't read, and why.
 fn unread(why: Why) -> RuleRead
-    ensures { result ≡ ruleReadTold (bad why) }
+    ensures { result ≡ rule_read_told (bad why) }
 {
     RuleRead {
         checking: Checking::Bad(why),
@@ -368,9 +368,9 @@ fn unread(why: Why) -> RuleRead
 // Whether the options that need one stand behind `-p`.
 fn options_stand(line: &[u8], at: usize) -> bool
     ensures { result
-        ≡ (portFits (text "--sport") (givenFrom at line.now)
-        && portFits (text "--dport") (givenFrom at line.now)
-        && moduleFits (givenFrom at line.now)) }
+        ≡ (port_fits (text "--sport") (given_from at line.now)
+        && port_fits (text "--dport") (given_from at line.now)
+        && module_fits (given_from at line.now)) }
 {
     port_fits(line, at, b"--sport") && port_fits(line, at, b"--dport") && module_fits(line, at)
 }
@@ -391,7 +391,7 @@ fn ports_rise(from: Bounds, to: Bounds) -> bool
 
 // The rule of the options behind a position: 57, then 58.
 pub fn rule_of(line: &[u8], at: usize) -> RuleRead
-    ensures { result ≡ ruleReadTold (ruleRead (wordsFrom at line.now)) }
+    ensures { result ≡ rule_read_told (rule_read (words_from at line.now)) }
 {
     if !options_known(line, at) || !options_stand(line, at) {
         return unread(Why::NotRead);

@@ -14,14 +14,14 @@ use Rattle.iptables.proofs.Wording.{number_reads, high_fits}
 use Rattle.iptables_words.specs.Told.{number_told, range_told}
 use Rattle.iptables_words.specs.declared.Ranged.TheVariants as ranged
 use Rattle.iptables_words.proofs.Pieces.{
-  none-behind,
-  piecesFrom,
+  none_behind,
+  pieces_from,
   past_end,
   from_start,
-  next-piece,
+  next_piece,
   first_piece,
-  one-behind,
-  several-behind,
+  one_behind,
+  several_behind,
 }
 use Rattle.iptables_words.proofs.Numbers.{told_is, told_not}
 
@@ -29,7 +29,7 @@ use Rattle.iptables_words.proofs.Numbers.{told_is, told_not}
 pub record Reading (word : List ℕ) (address left start : ℕ) : Type 0 where
   pub few : left ≤ 4
   pub fits : address < 256 ^ (4 - left)
-  pub same : dotted word ≡ address_from left address (piecesFrom dot word start)
+  pub same : dotted word ≡ address_from left address (pieces_from dot word start)
 
 pub none_read : (word : List ℕ) → Reading word 0 4 0
 unfolding dotted
@@ -44,7 +44,7 @@ reading_fits {left = left} r =
 module _ (word : List ℕ) (address left start : ℕ) (r : Reading word address left start) where
   -- all numbers are read: no piece may be left
   module _ (none : left ≤ 0) where
-    last : dotted word ≡ address_from 0 address (piecesFrom dot word start)
+    last : dotted word ≡ address_from 0 address (pieces_from dot word start)
     last = let all : left ≡ 0 = omega arith in r.same ∙ rw all refl
 
     pub all_read : length word < start → Is address ≡ number_told (dotted word)
@@ -53,20 +53,20 @@ module _ (word : List ℕ) (address left start : ℕ) (r : Reading word address 
 
     pub one_left : start ≤ length word → Not ≡ number_told (dotted word)
     unfolding number_told address_from
-    one_left inside = rw (last, next-piece dot word start (start + cut_at dot (drop start word)) inside refl) refl
+    one_left inside = rw (last, next_piece dot word start (start + cut_at dot (drop start word)) inside refl) refl
 
   -- one is still to come
   module _ (some : 0 < left) where
-    next : dotted word ≡ address_from (suc (left - 1)) address (piecesFrom dot word start)
-    next = let more : left ≡ suc (left - 1) = omega arith in r.same ∙ ap (λ (k : ℕ). address_from k address (piecesFrom dot word start)) more
+    next : dotted word ≡ address_from (suc (left - 1)) address (pieces_from dot word start)
+    next = let more : left ≡ suc (left - 1) = omega arith in r.same ∙ ap (λ (k : ℕ). address_from k address (pieces_from dot word start)) more
 
     pub none_to_come : length word < start → Not ≡ number_told (dotted word)
     unfolding number_told address_from
     none_to_come past = rw (next, past_end dot word start past) refl
 
     module _ (end : ℕ) (inside : start ≤ length word) (cut : end ≡ start + cut_at dot (drop start word)) where
-      to_come : dotted word ≡ address_from (suc (left - 1)) address (take (end - start) (drop start word) ∷ piecesFrom dot word (end + 1))
-      to_come = next ∙ ap (address_from (suc (left - 1)) address) (next-piece dot word start end inside cut)
+      to_come : dotted word ≡ address_from (suc (left - 1)) address (take (end - start) (drop start word) ∷ pieces_from dot word (end + 1))
+      to_come = next ∙ ap (address_from (suc (left - 1)) address) (next_piece dot word start end inside cut)
 
       pub no_byte : Not ≡ number_told (number_in 0 255 (take (end - start) (drop start word))) → Not ≡ number_told (dotted word)
       unfolding number_told address_from
@@ -113,16 +113,16 @@ some_address n size is = rw is (one-le-pow (32 - n) 2 (omega arith))
 module _ (word : List ℕ) (end : ℕ) where
   pub no_mask : end ≡ length word → Is 32 ≡ number_told (mask_of (pieces_behind slash (drop end word)))
   unfolding number_told mask_of
-  no_mask ends = rw (none-behind slash word end (omega arith)) refl
+  no_mask ends = rw (none_behind slash word end (omega arith)) refl
 
   module _ (inside : end < length word) (rest : List ℕ) (part : rest ≡ drop (end + 1) word) (to : ℕ) (cut : to ≡ 0 + cut_at slash (drop 0 rest)) where
     pub many_masks : to ≢ length rest → Not ≡ number_told (mask_of (pieces_behind slash (drop end word)))
     unfolding number_told mask_of
-    many_masks on = rw (several-behind slash word end inside rest part to cut on).is refl
+    many_masks on = rw (several_behind slash word end inside rest part to cut on).is refl
 
     pub one_mask : to ≡ length rest → mask_of (pieces_behind slash (drop end word)) ≡ number_in 0 32 rest
     unfolding mask_of
-    one_mask ends = rw (one-behind slash word end inside rest part to cut ends) refl
+    one_mask ends = rw (one_behind slash word end inside rest part to cut ends) refl
 
 mask_small : (masks : List (List ℕ)) (n : ℕ) → mask_of masks ≡ good n → n ≤ 32
 unfolding mask_of

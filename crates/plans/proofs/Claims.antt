@@ -37,15 +37,15 @@ use Rattle.deployment.proofs.Scripts.{length_script, script_read_lem}
 use Rattle.deployment.proofs.ReadBack.{tag_read, size_read, value_read}
 use Rattle.plans.specs.Plans.{
   Made,
-  scriptField,
+  script_field,
   plan_of,
-  madeOneOf,
-  madeOne,
-  madeTwoOf,
-  madeTwo,
-  plannedNumbers,
-  sentPlan,
-  placedPlan,
+  made_one_of,
+  made_one,
+  made_two_of,
+  made_two,
+  planned_numbers,
+  sent_plan,
+  placed_plan,
 }
 use Rattle.plans.specs.Claims.{
   Holds,
@@ -106,24 +106,24 @@ module _ (made : Made) (right : Scripted made.script) (place : List ℕ) where
   value_short : length (script_bytes made.script) < 65536
   value_short = omega (arith, length_script made.script, right.few)
 
-  field_holds : Holds made.script.type made.script.commands (plan_of made) place (filled place (scriptField made))
-  unfolding filled scriptField plan_of
+  field_holds : Holds made.script.type made.script.commands (plan_of made) place (filled place (script_field made))
+  unfolding filled script_field plan_of
   field_holds =
       let value = script_bytes made.script in
-      let left = drop (length (scriptField made)) place in
-      let size : number (part 1 2 (filled place (scriptField made))) ≡ length value = size_read script_tag value left value_short in
+      let left = drop (length (script_field made)) place in
+      let size : number (part 1 2 (filled place (script_field made))) ≡ length value = size_read script_tag value left value_short in
       record {
         tag = tag_read script_tag value left (omega arith);
         size = omega (arith, size, length_field made.script, length_script made.script);
         reads = rw (size, value_read script_tag value left) (script_read_lem made.script right);
         counted = refl;
-        rest = drop_at (scriptField made) left (length (scriptField made)) refl;
+        rest = drop_at (script_field made) left (length (script_field made)) refl;
       }
 
 -- A plan that is answered is the plan, and the place is filled.
-done_filled : (plan other : Plan) (field place : List ℕ) → (sentPlan plan field place).answer ≡ Done other
-    → (other ≡ plan) × ((sentPlan plan field place).place ≡ filled place field)
-unfolding sentPlan
+done_filled : (plan other : Plan) (field place : List ℕ) → (sent_plan plan field place).answer ≡ Done other
+    → (other ≡ plan) × ((sent_plan plan field place).place ≡ filled place field)
+unfolding sent_plan
 done_filled plan other field place e =
     by_test (leb (length field) (length place))
     (λ room. let same : plan ≡ other = done_same (rw room at e) in (sym same, rw room))
@@ -132,11 +132,11 @@ done_filled plan other field place e =
     done_same : {p q : Plan} → Done p ≡ Done q → p ≡ q
     done_same e = cc
 
-made_holds : (made : Made) → Scripted made.script → (place : List ℕ) (plan : Plan) → (placedPlan made place).answer ≡ Done plan
-    → (plan ≡ plan_of made) × Holds made.script.type made.script.commands plan place (placedPlan made place).place
-unfolding placedPlan
+made_holds : (made : Made) → Scripted made.script → (place : List ℕ) (plan : Plan) → (placed_plan made place).answer ≡ Done plan
+    → (plan ≡ plan_of made) × Holds made.script.type made.script.commands plan place (placed_plan made place).place
+unfolding placed_plan
 made_holds made right place plan e =
-    let so = done_filled (plan_of made) plan (scriptField made) place e in
+    let so = done_filled (plan_of made) plan (script_field made) place e in
     (so.0, rw (so.0, so.1) (field_holds made right place))
 
 module _ (c : Contents) (valid : Valid c) where
@@ -151,8 +151,8 @@ module _ (c : Contents) (valid : Valid c) where
   plan_holds : (made : Made) → ScriptType made.script.type → length made.script.commands ≤ 1024
       → (of_type made.script.type made.script.commands ≡ true)
       × Leads (length c.catalogue) c.initial made.script.commands c.target
-      → (place : List ℕ) (plan : Plan) → (placedPlan made place).answer ≡ Done plan
-      → HoldsPlan made.script.type made.script.commands made.kept c plan place (placedPlan made place).place
+      → (place : List ℕ) (plan : Plan) → (placed_plan made place).answer ≡ Done plan
+      → HoldsPlan made.script.type made.script.commands made.kept c plan place (placed_plan made place).place
   unfolding plan_of
   plan_holds made legal few reaches place plan e =
       let right = scripted c valid made.script.type legal made.script.commands few reaches in
@@ -160,13 +160,13 @@ module _ (c : Contents) (valid : Valid c) where
       record { written = so.1; keeps = ap (λ (p : Plan). p.kept) so.0; reaches = reaches.1 }
 
 pub one_holds : OneHolds
-unfolding madeOne madeOneOf
+unfolding made_one made_one_of
 one_holds c place plan valid e =
     let size = length c.catalogue in
     let first = valid.initial.sound in
     let last = valid.target.sound in
     let reaches = plan_one_reaches size c.initial c.target first last in
-    let holds = plan_holds c valid (madeOne c) ((script_types 1).types.1 (inl refl)) (plans_few c valid).0 reaches place plan e in
+    let holds = plan_holds c valid (made_one c) ((script_types 1).types.1 (inl refl)) (plans_few c valid).0 reaches place plan e in
     let counted = holds.written.counted in
     record {
       holds = holds;
@@ -177,12 +177,12 @@ one_holds c place plan valid e =
     }
 
 pub two_holds : TwoHolds
-unfolding madeTwo madeTwoOf
+unfolding made_two made_two_of
 two_holds c place plan valid e =
     let size = length c.catalogue in
     let lists = lists_accepted c valid in
     let reaches = plan_two_reaches size c.initial c.target c.keep lists in
-    let holds = plan_holds c valid (madeTwo c) ((script_types 2).types.1 (inr refl)) (plans_few c valid).1 reaches place plan e in
+    let holds = plan_holds c valid (made_two c) ((script_types 2).types.1 (inr refl)) (plans_few c valid).1 reaches place plan e in
     record {
       holds = holds;
       count = omega (arith, holds.written.counted, holds.keeps, plan_two_count size c.initial c.target c.keep lists);
@@ -192,17 +192,17 @@ two_holds c place plan valid e =
 
 -- What the numbers of an answer say, and how much room a plan needs.
 pub planned_numbers_say : PlannedNumbersSay
-unfolding plannedNumbers
-planned_numbers_say = numbers_say plannedNumbers Turned (λ r. refl) cases
+unfolding planned_numbers
+planned_numbers_say = numbers_say planned_numbers Turned (λ r. refl) cases
   where
-    cases : (answer : Planned) → (plannedNumbers answer ≡ []) ⊎ ((r : Refusal) × (answer ≡ Turned r))
+    cases : (answer : Planned) → (planned_numbers answer ≡ []) ⊎ ((r : Refusal) × (answer ≡ Turned r))
     cases (Done plan) = inl refl
     cases (Turned r) = inr (r, refl)
 
 pub room_for_every : RoomForEvery
-unfolding scriptField madeOne madeOneOf madeTwo madeTwoOf
+unfolding script_field made_one made_one_of made_two made_two_of
 room_for_every c valid =
     let few = plans_few c valid in (
-      omega (arith, length_field (madeOne c).script, few.0),
-      omega (arith, length_field (madeTwo c).script, few.1),
+      omega (arith, length_field (made_one c).script, few.0),
+      omega (arith, length_field (made_two c).script, few.1),
     )

@@ -19,29 +19,29 @@ use Rattle.deployment.specs.FieldValues.{policy_value, default_value, keep_value
 use Rattle.deployment.specs.File.{
   Fields,
   Field,
-  rulesOnly,
+  rules_only,
   listed,
-  lastTag,
-  fieldRead,
-  withRule,
-  withPolicy,
-  withDefault,
-  withKeep,
-  withScript,
-  withField,
-  rule-tag,
-  initial-tag,
-  target-tag,
-  default-tag,
-  keep-tag,
-  script-tag,
+  last_tag,
+  field_read,
+  with_rule,
+  with_policy,
+  with_default,
+  with_keep,
+  with_script,
+  with_field,
+  rule_tag,
+  initial_tag,
+  target_tag,
+  default_tag,
+  keep_tag,
+  script_tag,
   head_bytes,
 }
 use Rattle.deployment.specs.Properties.{
   IfThere,
-  upToInitial,
+  up_to_initial,
   PolicyBehind,
-  fieldsBytes,
+  fields_bytes,
   tag_of,
   size_of,
   value_of,
@@ -55,13 +55,13 @@ use Rattle.deployment.proofs.Values.{policy_numbers}
 use Rattle.deployment.proofs.Fields.{by_tag}
 use Rattle.deployment.proofs.Taken.{
   FieldRight,
-  field-right,
-  whole-read,
-  with-tag,
-  rule-size,
-  list-size,
-  default-size,
-  script-size,
+  field_right,
+  whole_read,
+  with_tag_lem,
+  rule_size,
+  list_size,
+  default_size,
+  script_size,
 }
 use Rattle.catalogue.specs.Answers.{checking, rule_value}
 use Rattle.reader.specs.Answers.{value_at}
@@ -72,19 +72,19 @@ use Rattle.reader.proofs.ValuePlaces.{initial_stands, target_stands, catalogue_f
 use Rattle.reader.proofs.Heads.{same_count}
 
 -- The field that was read: whole, and of the right length.
-read_some : (f : Fields) (left : List ℕ) (field : Field) → fieldRead f left ≡ good field → 1 ≤ length left
-unfolding fieldRead
+read_some : (f : Fields) (left : List ℕ) (field : Field) → field_read f left ≡ good field → 1 ≤ length left
+unfolding field_read
 read_some f [] field e = absurd (let z : ◌≡◌ {A = ℕ} 0 1 = cc in omega arith)
 read_some f (x ∷ l) field e = omega arith
 
 module _
     (f : Fields) (left : List ℕ) (tag : ℕ) (value : List ℕ)
-    (read : fieldRead f left ≡ good (record { tag = tag; value = value })) where
+    (read : field_read f left ≡ good (record { tag = tag; value = value })) where
   pub read_whole : Whole f left
-  read_whole = subst (FieldRight f left) read (field-right f left (read_some f left _ read))
+  read_whole = subst (FieldRight f left) read (field_right f left (read_some f left _ read))
 
   pub read_field : ◌≡◌ {A = Field} (record { tag = tag; value = value }) (record { tag = tag_of left; value = value_of left })
-  read_field = let whole = whole-read f left read_whole in cc
+  read_field = let whole = whole_read f left read_whole in cc
 
   pub read_long : length value ≡ size_of left
   read_long = ap (λ (field : Field). length field.value) read_field ∙ length_part head_bytes (size_of left) left read_whole.1
@@ -109,7 +109,7 @@ policy_back f tag (some l) few h = policy_numbers (length f.catalogue) l few h.1
 -- The tests of a value, by its tag.
 module _
     (file : List ℕ) (progress : Progress) (f : Fields) (b : Begun file progress f) (tag : ℕ) (value : List ℕ)
-    (read : fieldRead f (drop progress.at file) ≡ good (record { tag = tag; value = value })) where
+    (read : field_read f (drop progress.at file) ≡ good (record { tag = tag; value = value })) where
   right : RightLength tag (length value)
   right = read_right f (drop progress.at file) tag value read
 
@@ -119,70 +119,70 @@ module _
   same_catalogue : take progress.layout.rules (catalogue_of 3 file) ≡ f.catalogue
   same_catalogue =
       rw (same_count file progress f b, b.is)
-      (catalogue_first f (drop (length (fieldsBytes f)) file) b.readable.catalogue.recordable)
+      (catalogue_first f (drop (length (fields_bytes f)) file) b.readable.catalogue.recordable)
 
-  pub checked_rule : tag ≡ rule-tag
+  pub checked_rule : tag ≡ rule_tag
       → checking (rule_value (take progress.layout.rules (catalogue_of 3 file)) value)
-      ≡ checking (withField f (record { tag = tag; value = value }))
-  unfolding rule_value withField withRule
+      ≡ checking (with_field f (record { tag = tag; value = value }))
+  unfolding rule_value with_field with_rule
   checked_rule e =
-      rw (with-tag f value e, same_catalogue, eq-eqb (length value) rule_bytes_lem (rule-size e right))
+      rw (with_tag_lem f value e, same_catalogue, eq-eqb (length value) rule_bytes_lem (rule_size e right))
       (checking_last (rule_read f.catalogue value) _)
 
-  list_fits_lem : ¬ (tag ≡ rule-tag) → ¬ (tag ≡ script-tag) → ¬ (tag ≡ default-tag) → list_fits (length value) ≡ true
-  list_fits_lem n m o = (says_list (length value)).1 (list-size n m o right)
+  list_fits_lem : ¬ (tag ≡ rule_tag) → ¬ (tag ≡ script_tag) → ¬ (tag ≡ default_tag) → list_fits (length value) ≡ true
+  list_fits_lem n m o = (says_list (length value)).1 (list_size n m o right)
 
   -- a policy's tag is what is left
-  policy_left : ¬ (tag ≡ rule-tag) → ¬ (tag ≡ default-tag) → ¬ (tag ≡ keep-tag) → ¬ (tag ≡ script-tag)
-      → (tag ≡ initial-tag) ⊎ (tag ≡ target-tag)
+  policy_left : ¬ (tag ≡ rule_tag) → ¬ (tag ≡ default_tag) → ¬ (tag ≡ keep_tag) → ¬ (tag ≡ script_tag)
+      → (tag ≡ initial_tag) ⊎ (tag ≡ target_tag)
   policy_left r d k s =
-      by_tag (λ x. tag ≡ x → (tag ≡ initial-tag) ⊎ (tag ≡ target-tag)) (lastTag f) stands
+      by_tag (λ x. tag ≡ x → (tag ≡ initial_tag) ⊎ (tag ≡ target_tag)) (last_tag f) stands
       (λ e. absurd (r e)) (λ e. inl e) (λ e. inr e) (λ e. absurd (d e)) (λ e. absurd (k e)) (λ e. absurd (s e)) refl
 
-  pub checked_policy : ¬ (tag ≡ rule-tag) → ¬ (tag ≡ default-tag) → ¬ (tag ≡ keep-tag) → ¬ (tag ≡ script-tag)
+  pub checked_policy : ¬ (tag ≡ rule_tag) → ¬ (tag ≡ default_tag) → ¬ (tag ≡ keep_tag) → ¬ (tag ≡ script_tag)
       → checking (policy_value (min progress.layout.rules 1024) value)
-      ≡ checking (withField f (record { tag = tag; value = value }))
-  unfolding policy_value withField withPolicy
+      ≡ checking (with_field f (record { tag = tag; value = value }))
+  unfolding policy_value with_field with_policy
   checked_policy r d k s =
       let few : min progress.layout.rules 1024 ≡ length f.catalogue =
       omega (arith, same_count file progress f b, b.readable.catalogue.few) in
       rw (few, list_fits_lem r s d)
       (⊎_elim
-      (λ e. rw (with-tag f value {tag = tag} {x = initial-tag} e) (checking_last (policy_read (length f.catalogue) value) _))
-      (λ e. rw (with-tag f value {tag = tag} {x = target-tag} e) (checking_last (policy_read (length f.catalogue) value) _))
+      (λ e. rw (with_tag_lem f value {tag = tag} {x = initial_tag} e) (checking_last (policy_read (length f.catalogue) value) _))
+      (λ e. rw (with_tag_lem f value {tag = tag} {x = target_tag} e) (checking_last (policy_read (length f.catalogue) value) _))
       (policy_left r d k s))
 
-  pub checked_default : tag ≡ default-tag → checking (default_value (some value)) ≡ checking (withField f (record { tag = tag; value = value }))
-  unfolding default_value withField withDefault
+  pub checked_default : tag ≡ default_tag → checking (default_value (some value)) ≡ checking (with_field f (record { tag = tag; value = value }))
+  unfolding default_value with_field with_default
   checked_default e =
-      rw (with-tag f value e, eq-eqb (length value) default_bytes_lem (default-size e right)) (checking_last (default_read value) _)
+      rw (with_tag_lem f value e, eq-eqb (length value) default_bytes_lem (default_size e right)) (checking_last (default_read value) _)
 
   same_initial : numbers_of (value_at progress.layout.initial file) ≡ listed f.initial
   unfolding progress_of
   same_initial =
       ap numbers_of
-      (rw (b.known, b.is) (initial_stands f (drop (length (fieldsBytes f)) file)))
-      ∙ policy_back (rulesOnly f.catalogue) initial-tag f.initial b.readable.catalogue.few b.readable.initial
+      (rw (b.known, b.is) (initial_stands f (drop (length (fields_bytes f)) file)))
+      ∙ policy_back (rules_only f.catalogue) initial_tag f.initial b.readable.catalogue.few b.readable.initial
 
   same_target : numbers_of (value_at progress.layout.target file) ≡ listed f.target
   unfolding progress_of
   same_target =
       ap numbers_of
-      (rw (b.known, b.is) (target_stands f (drop (length (fieldsBytes f)) file)))
-      ∙ policy_back (upToInitial f) target-tag f.target b.readable.catalogue.few b.readable.target
+      (rw (b.known, b.is) (target_stands f (drop (length (fields_bytes f)) file)))
+      ∙ policy_back (up_to_initial f) target_tag f.target b.readable.catalogue.few b.readable.target
 
   pub checked_keep : (initial target : List ℕ) → initial ≡ value_at progress.layout.initial file
-      → target ≡ value_at progress.layout.target file → tag ≡ keep-tag
+      → target ≡ value_at progress.layout.target file → tag ≡ keep_tag
       → checking (keep_value (numbers_of initial) (numbers_of target) (some value))
-      ≡ checking (withField f (record { tag = tag; value = value }))
-  unfolding keep_value withField withKeep
+      ≡ checking (with_field f (record { tag = tag; value = value }))
+  unfolding keep_value with_field with_keep
   checked_keep initial target i t e =
-      rw (with-tag f value e, list_fits_lem (omega arith) (omega arith) (omega arith), i, t, same_initial, same_target)
+      rw (with_tag_lem f value e, list_fits_lem (omega arith) (omega arith) (omega arith), i, t, same_initial, same_target)
       (sym (checking_last (keep_read (listed f.initial) (listed f.target) value) _)
       ∙ checking_last (keep_read (listed f.initial) (listed f.target) value) _)
 
-  pub checked_script : tag ≡ script-tag → checking (script_value (some value)) ≡ checking (withField f (record { tag = tag; value = value }))
-  unfolding script_value withField withScript
+  pub checked_script : tag ≡ script_tag → checking (script_value (some value)) ≡ checking (with_field f (record { tag = tag; value = value }))
+  unfolding script_value with_field with_script
   checked_script e =
-      rw (with-tag f value e, (says_script (length value)).1 (script-size e right))
+      rw (with_tag_lem f value e, (says_script (length value)).1 (script_size e right))
       (sym (checking_last (script_read value) _) ∙ checking_last (script_read value) _)

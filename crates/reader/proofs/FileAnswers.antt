@@ -30,14 +30,14 @@ use Rattle.reader.specs.declared.Layout.{Layout}
 use Rattle.reader.specs.declared.FileRead.{FileRead}
 use Rattle.reader.specs.declared.FileRead.TheVariants.{Accepted}
 use Rattle.reader.proofs.ValuePlaces.{
-  initial-stands,
-  target-stands,
-  default-part-stands,
-  keep-stands,
-  script-part-stands,
-  catalogue-front,
-  catalogue-first,
-  rule-stands,
+  initial_stands,
+  target_stands,
+  default_part_stands,
+  keep_stands,
+  script_part_stands,
+  catalogue_front,
+  catalogue_first,
+  rule_stands,
 }
 use Rattle.reader.proofs.ShownReadings.{shown_accepted}
 use Rattle.reader.proofs.ToJudge.{scripted}
@@ -89,37 +89,37 @@ module _ (c : Contents) (valid : Valid c) where
   unfolding catalogue_of records_of record_count chunks
   catalogue_alone =
       ap (catalogue_of 3) (rules_alone ∙ sym (append-nil _))
-      ∙ catalogue-front c.catalogue [] valid.catalogue.recordable ∙ append-nil c.catalogue
+      ∙ catalogue_front c.catalogue [] valid.catalogue.recordable ∙ append-nil c.catalogue
 
   rule_there : (before : List Rule) (rule : Rule) (behind : List Rule) → c.catalogue ≡ before ++ (rule ∷ behind)
       → value_at (rule_span (length before)) (file_of c) ≡ rule_bytes rule
   unfolding file_of
-  rule_there before rule behind is = rw is (rule-stands before rule behind _)
+  rule_there before rule behind is = rw is (rule_stands before rule behind _)
 
   catalogue_among : take (length c.catalogue) (catalogue_of 3 (file_of c)) ≡ c.catalogue
   unfolding fields_of
-  catalogue_among = rw (← bytes_of c) (catalogue-first (fields_of c) [] valid.catalogue.recordable)
+  catalogue_among = rw (← bytes_of c) (catalogue_first (fields_of c) [] valid.catalogue.recordable)
 
   initial_bytes : value_at (layout_of c).initial (file_of c) ≡ numbers_bytes c.initial
   unfolding fields_of listed
-  initial_bytes = rw (← places_of c, ← bytes_of c) (initial-stands (fields_of c) [])
+  initial_bytes = rw (← places_of c, ← bytes_of c) (initial_stands (fields_of c) [])
 
   target_bytes : value_at (layout_of c).target (file_of c) ≡ numbers_bytes c.target
   unfolding fields_of listed
-  target_bytes = rw (← places_of c, ← bytes_of c) (target-stands (fields_of c) [])
+  target_bytes = rw (← places_of c, ← bytes_of c) (target_stands (fields_of c) [])
 
   default_in_bytes : value_at (layout_of c).default (file_of c)
       ≡ elim (default_field c.default) [ none ↦ [] | some action ↦ default_bytes action ]
   unfolding fields_of
-  default_in_bytes = rw (← places_of c, ← bytes_of c) (default-part-stands (fields_of c) [])
+  default_in_bytes = rw (← places_of c, ← bytes_of c) (default_part_stands (fields_of c) [])
 
   keep_bytes_lem : value_at (layout_of c).keep (file_of c) ≡ numbers_bytes (listed c.keep)
   unfolding fields_of listed
-  keep_bytes_lem = rw (← places_of c, ← bytes_of c) (keep-stands (fields_of c) [])
+  keep_bytes_lem = rw (← places_of c, ← bytes_of c) (keep_stands (fields_of c) [])
 
   script_bytes_lem : value_at (layout_of c).script (file_of c) ≡ elim c.script [ none ↦ [] | some script ↦ script_bytes script ]
   unfolding fields_of
-  script_bytes_lem = rw (← places_of c, ← bytes_of c) (script-part-stands (fields_of c) [])
+  script_bytes_lem = rw (← places_of c, ← bytes_of c) (script_part_stands (fields_of c) [])
 
   default_there : (default : Option Action) → default_field c.default ≡ default
       → IfThere (DefaultStands (file_of c) (layout_of c).default) default

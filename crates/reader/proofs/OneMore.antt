@@ -12,37 +12,37 @@ use Rattle.deployment.specs.Contents.{rule_read, policy_read, default_read, keep
 use Rattle.deployment.specs.File.{
   Fields,
   listed,
-  tagOr,
-  lastTag,
-  withRule,
-  withPolicy,
-  withDefault,
-  withKeep,
-  withScript,
-  withField,
-  fieldBytes,
-  rule-tag,
-  initial-tag,
-  target-tag,
-  default-tag,
-  keep-tag,
-  script-tag,
+  tag_or,
+  last_tag,
+  with_rule,
+  with_policy,
+  with_default,
+  with_keep,
+  with_script,
+  with_field,
+  field_bytes,
+  rule_tag,
+  initial_tag,
+  target_tag,
+  default_tag,
+  keep_tag,
+  script_tag,
 }
 use Rattle.deployment.specs.Properties.{fields_bytes, CanStand}
 use Rattle.deployment.proofs.Fields.{
   by_tag,
-  before-rule,
-  before-initial,
-  before-target,
-  before-default,
-  before-keep,
-  before-script,
-  bytes-with-rule,
-  bytes-with-initial,
-  bytes-with-target,
-  bytes-with-default,
-  bytes-with-keep,
-  bytes-with-script,
+  before_rule,
+  before_initial,
+  before_target,
+  before_default,
+  before_keep,
+  before_script,
+  bytes_with_rule,
+  bytes_with_initial,
+  bytes_with_target,
+  bytes_with_default,
+  bytes_with_keep,
+  bytes_with_script,
 }
 use Rattle.deployment.proofs.ReadBack.{length_field}
 use Rattle.values.specs.Answers.{there}
@@ -54,21 +54,21 @@ use Rattle.reader.proofs.ValuePlaces.{fields_end}
 
 -- Its bytes, its tag and its place.
 pub more_bytes : {f g : Fields} {tag : ℕ} {value : List ℕ} → More f tag value g
-    → fields_bytes g ≡ fields_bytes f ++ fieldBytes tag value
-more_bytes {f} (a_rule rule h) = bytes-with-rule f rule h
-more_bytes {f} (an_initial i h) = bytes-with-initial f i h
-more_bytes {f} (a_target t h) = bytes-with-target f t h
-more_bytes {f} (a_default d h) = bytes-with-default f d h
-more_bytes {f} (a_keep k h) = bytes-with-keep f k h
-more_bytes {f} (a_script s h) = bytes-with-script f s h
+    → fields_bytes g ≡ fields_bytes f ++ field_bytes tag value
+more_bytes {f} (a_rule rule h) = bytes_with_rule f rule h
+more_bytes {f} (an_initial i h) = bytes_with_initial f i h
+more_bytes {f} (a_target t h) = bytes_with_target f t h
+more_bytes {f} (a_default d h) = bytes_with_default f d h
+more_bytes {f} (a_keep k h) = bytes_with_keep f k h
+more_bytes {f} (a_script s h) = bytes_with_script f s h
 
-pub more_last : {f g : Fields} {tag : ℕ} {value : List ℕ} → More f tag value g → tag ≡ lastTag g
-unfolding lastTag tagOr
-more_last {f} (a_rule rule h) = let n = before-rule f h in rw (n.0, n.1, n.2, n.3, n.4)
-more_last {f} (an_initial i h) = let n = before-initial f h in rw (n.1, n.2, n.3, n.4)
-more_last {f} (a_target t h) = let n = before-target f h in rw (n.1, n.2, n.3)
-more_last {f} (a_default d h) = let n = before-default f h in rw (n.1, n.2)
-more_last {f} (a_keep k h) = rw (before-keep f h).1
+pub more_last : {f g : Fields} {tag : ℕ} {value : List ℕ} → More f tag value g → tag ≡ last_tag g
+unfolding last_tag tag_or
+more_last {f} (a_rule rule h) = let n = before_rule f h in rw (n.0, n.1, n.2, n.3, n.4)
+more_last {f} (an_initial i h) = let n = before_initial f h in rw (n.1, n.2, n.3, n.4)
+more_last {f} (a_target t h) = let n = before_target f h in rw (n.1, n.2, n.3)
+more_last {f} (a_default d h) = let n = before_default f h in rw (n.1, n.2)
+more_last {f} (a_keep k h) = rw (before_keep f h).1
 more_last (a_script s h) = refl
 
 pub more_stands : {f g : Fields} {tag : ℕ} {value : List ℕ} → More f tag value g → CanStand f tag
@@ -96,47 +96,47 @@ places rules initial target has-default default has-keep keep has-script script 
 
 -- the places with that of one more value, by its tag
 module _ (l : Layout) (span : Span) where
-  pub placed_rule : {f g : Fields} {value : List ℕ} → More f rule-tag value g → l ≡ layout_so_far f
+  pub placed_rule : {f g : Fields} {value : List ℕ} → More f rule_tag value g → l ≡ layout_so_far f
       → places (l.rules + 1) l.initial l.target l.has_default l.default l.has_keep l.keep l.has_script l.script
       ≡ layout_so_far g
   unfolding layout_so_far keep_bytes action_bytes command_bytes span_if end_of there
   placed_rule {f} (a_rule rule h) known =
-      let n = before-rule f h in rw (known, length-append f.catalogue (rule ∷ []), n.0, n.1, n.2, n.3, n.4)
+      let n = before_rule f h in rw (known, length-append f.catalogue (rule ∷ []), n.0, n.1, n.2, n.3, n.4)
 
-  pub placed_initial : {f g : Fields} {value : List ℕ} → More f initial-tag value g → l ≡ layout_so_far f
+  pub placed_initial : {f g : Fields} {value : List ℕ} → More f initial_tag value g → l ≡ layout_so_far f
       → span ≡ span_from (length (fields_bytes f)) value
       → places l.rules span l.target l.has_default l.default l.has_keep l.keep l.has_script l.script
       ≡ layout_so_far g
   unfolding layout_so_far keep_bytes action_bytes command_bytes span_if end_of there
-  placed_initial {f} (an_initial i h) known w = let n = before-initial f h in rw (known, w, fields_end f, n.0, n.1, n.2, n.3, n.4)
+  placed_initial {f} (an_initial i h) known w = let n = before_initial f h in rw (known, w, fields_end f, n.0, n.1, n.2, n.3, n.4)
 
-  pub placed_target : {f g : Fields} {value : List ℕ} → More f target-tag value g → l ≡ layout_so_far f
+  pub placed_target : {f g : Fields} {value : List ℕ} → More f target_tag value g → l ≡ layout_so_far f
       → span ≡ span_from (length (fields_bytes f)) value
       → places l.rules l.initial span l.has_default l.default l.has_keep l.keep l.has_script l.script
       ≡ layout_so_far g
   unfolding layout_so_far keep_bytes action_bytes command_bytes span_if end_of there
-  placed_target {f} (a_target t h) known w = let n = before-target f h in rw (known, w, fields_end f, n.0, n.1, n.2, n.3)
+  placed_target {f} (a_target t h) known w = let n = before_target f h in rw (known, w, fields_end f, n.0, n.1, n.2, n.3)
 
-  pub placed_default : {f g : Fields} {value : List ℕ} → More f default-tag value g → l ≡ layout_so_far f
+  pub placed_default : {f g : Fields} {value : List ℕ} → More f default_tag value g → l ≡ layout_so_far f
       → span ≡ span_from (length (fields_bytes f)) value
       → places l.rules l.initial l.target true span l.has_keep l.keep l.has_script l.script
       ≡ layout_so_far g
   unfolding layout_so_far keep_bytes action_bytes command_bytes span_if end_of there
-  placed_default {f} (a_default d h) known w = let n = before-default f h in rw (known, w, fields_end f, n.0, n.1, n.2)
+  placed_default {f} (a_default d h) known w = let n = before_default f h in rw (known, w, fields_end f, n.0, n.1, n.2)
 
-  pub placed_keep : {f g : Fields} {value : List ℕ} → More f keep-tag value g → l ≡ layout_so_far f
+  pub placed_keep : {f g : Fields} {value : List ℕ} → More f keep_tag value g → l ≡ layout_so_far f
       → span ≡ span_from (length (fields_bytes f)) value
       → places l.rules l.initial l.target l.has_default l.default true span l.has_script l.script
       ≡ layout_so_far g
   unfolding layout_so_far keep_bytes action_bytes command_bytes span_if end_of there
-  placed_keep {f} (a_keep k h) known w = let n = before-keep f h in rw (known, w, fields_end f, n.0, n.1)
+  placed_keep {f} (a_keep k h) known w = let n = before_keep f h in rw (known, w, fields_end f, n.0, n.1)
 
-  pub placed_script : {f g : Fields} {value : List ℕ} → More f script-tag value g → l ≡ layout_so_far f
+  pub placed_script : {f g : Fields} {value : List ℕ} → More f script_tag value g → l ≡ layout_so_far f
       → span ≡ span_from (length (fields_bytes f)) value
       → places l.rules l.initial l.target l.has_default l.default l.has_keep l.keep true span
       ≡ layout_so_far g
   unfolding layout_so_far keep_bytes action_bytes command_bytes span_if end_of there
-  placed_script {f} (a_script s h) known w = let n = before-script f h in rw (known, w, fields_end f, n)
+  placed_script {f} (a_script s h) known w = let n = before_script f h in rw (known, w, fields_end f, n)
 
 -- Fields with one more, where the tests of its value passed.
 grown : {A : Type 0} {f : Fields} {tag : ℕ} (read : Checked A) (with : A → Fields) (written : A → List ℕ) (g : Fields)
@@ -145,13 +145,13 @@ grown (good a) with written g more e = (written a, let same : with a ≡ g = cc 
 grown (bad why) with written g more e = absurd (let z : ◌≡◌ {A = ℕ} 0 1 = cc in omega arith)
 
 pub more_of : (f : Fields) (tag : ℕ) (value : List ℕ) (g : Fields) → CanStand f tag
-    → withField f (record { tag = tag; value = value }) ≡ good g → (w : List ℕ) × More f tag w g
-unfolding withField withRule withPolicy withDefault withKeep withScript
+    → with_field f (record { tag = tag; value = value }) ≡ good g → (w : List ℕ) × More f tag w g
+unfolding with_field with_rule with_policy with_default with_keep with_script
 more_of f tag value g stands e =
     let policy = policy_read (length f.catalogue) value in
     let keep = keep_read (listed f.initial) (listed f.target) value in
-    by_tag (λ x. CanStand f x → withField f (record { tag = x; value = value }) ≡ good g → (w : List ℕ) × More f x w g)
-    (lastTag f) stands
+    by_tag (λ x. CanStand f x → with_field f (record { tag = x; value = value }) ≡ good g → (w : List ℕ) × More f x w g)
+    (last_tag f) stands
     (λ h. grown (rule_read f.catalogue value) _ rule_bytes g (λ a. a_rule a h))
     (λ h. grown policy _ numbers_bytes g (λ a. an_initial a h))
     (λ h. grown policy _ numbers_bytes g (λ a. a_target a h))
@@ -164,5 +164,5 @@ more_of f tag value g stands e =
 pub more_long : {f g : Fields} {tag : ℕ} {value : List ℕ} → More f tag value g
     → length (fields_bytes g) ≡ length (fields_bytes f) + (3 + length value)
 more_long {f} {g} {tag} {value} more =
-    ap length (more_bytes more) ∙ length-append (fields_bytes f) (fieldBytes tag value)
+    ap length (more_bytes more) ∙ length-append (fields_bytes f) (field_bytes tag value)
     ∙ ap (λ (n : ℕ). length (fields_bytes f) + n) (length_field tag value)

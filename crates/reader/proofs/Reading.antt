@@ -20,22 +20,22 @@ use Rattle.deployment.specs.File.{
   Fields,
   Field,
   listed,
-  tagsAfter,
-  tagOr,
-  lastTag,
-  fieldRead,
-  withField,
-  atEnd,
-  rule-tag,
-  target-tag,
-  default-tag,
-  keep-tag,
-  script-tag,
+  tags_after,
+  tag_or,
+  last_tag,
+  field_read,
+  with_field,
+  at_end,
+  rule_tag,
+  target_tag,
+  default_tag,
+  keep_tag,
+  script_tag,
   head_bytes,
   nothing,
-  readFrom,
-  readFile,
-  ifThere,
+  read_from,
+  read_file,
+  if_there,
 }
 use Rattle.deployment.specs.Properties.{CanStand, Readable, fields_bytes, size_of, AreBytes}
 use Rattle.deployment.specs.declared.Why.TheVariants.{NoTarget}
@@ -63,21 +63,21 @@ use Rattle.reader.proofs.OneMore.{more_last, more_of, more_long}
 
 -- The answer to one field, by those to its head and to its value.
 module _ (f : Fields) (left : List ℕ) where
-  pub turned_at_head : (why : Why) → head.Bad why ≡ head_shown (fieldRead f left) → step.Bad why ≡ step_from f left
+  pub turned_at_head : (why : Why) → head.Bad why ≡ head_shown (field_read f left) → step.Bad why ≡ step_from f left
   unfolding head_shown step_from step_shown
-  turned_at_head why e = go (fieldRead f left) refl e
+  turned_at_head why e = go (field_read f left) refl e
     where
-      go : (read : Checked Field) → fieldRead f left ≡ read → head.Bad why ≡ head_shown read → step.Bad why ≡ step_from f left
+      go : (read : Checked Field) → field_read f left ≡ read → head.Bad why ≡ head_shown read → step.Bad why ≡ step_from f left
       go (bad other) h e = rw h (let same : why ≡ other = cc in rw same)
       go (good field) h e = absurd (let z : ◌≡◌ {A = ℕ} 0 1 = cc in omega arith)
 
-  pub headed_field : (tag size : ℕ) → head.Field tag size ≡ head_shown (fieldRead f left)
-      → (fieldRead f left ≡ good (record { tag = tag; value = part 3 size left })) × (3 + size ≤ length left) × (size ≡ size_of left)
+  pub headed_field : (tag size : ℕ) → head.Field tag size ≡ head_shown (field_read f left)
+      → (field_read f left ≡ good (record { tag = tag; value = part 3 size left })) × (3 + size ≤ length left) × (size ≡ size_of left)
   unfolding head_shown
-  headed_field tag size e = go (fieldRead f left) refl e
+  headed_field tag size e = go (field_read f left) refl e
     where
-      go : (read : Checked Field) → fieldRead f left ≡ read → head.Field tag size ≡ head_shown read
-          → (fieldRead f left ≡ good (record { tag = tag; value = part 3 size left })) × (3 + size ≤ length left) × (size ≡ size_of left)
+      go : (read : Checked Field) → field_read f left ≡ read → head.Field tag size ≡ head_shown read
+          → (field_read f left ≡ good (record { tag = tag; value = part 3 size left })) × (3 + size ≤ length left) × (size ≡ size_of left)
       go (bad why) h e = absurd (let z : ◌≡◌ {A = ℕ} 0 1 = cc in omega arith)
       go (good field) h e =
           let same_tag : tag ≡ field.tag = cc in
@@ -88,22 +88,22 @@ module _ (f : Fields) (left : List ℕ) where
           ap (λ (field : Field). field.value) (read_field f left field.tag field.value h) in
           (rw (same_tag, same_size, long, ← same_value) h, omega arith, same_size ∙ long)
 
-  pub turned_at_value : (field : Field) → fieldRead f left ≡ good field → (why : Why) → Bad why ≡ checking (withField f field)
+  pub turned_at_value : (field : Field) → field_read f left ≡ good field → (why : Why) → Bad why ≡ checking (with_field f field)
       → step.Bad why ≡ step_from f left
   unfolding checking step_from step_shown
-  turned_at_value field h why e = go (withField f field) refl e
+  turned_at_value field h why e = go (with_field f field) refl e
     where
-      go : (read : Checked Fields) → withField f field ≡ read → Bad why ≡ checking read → step.Bad why ≡ step_from f left
+      go : (read : Checked Fields) → with_field f field ≡ read → Bad why ≡ checking read → step.Bad why ≡ step_from f left
       go (bad other) k e = rw (h, k) (let same : why ≡ other = cc in rw same)
       go (good g) k e = absurd (let z : ◌≡◌ {A = ℕ} 0 1 = cc in omega arith)
 
-  pub passed_value : (field : Field) → fieldRead f left ≡ good field → Good ≡ checking (withField f field)
-      → (g : Fields) × (withField f field ≡ good g) × (step_from f left ≡ step.Next (progress_of g))
+  pub passed_value : (field : Field) → field_read f left ≡ good field → Good ≡ checking (with_field f field)
+      → (g : Fields) × (with_field f field ≡ good g) × (step_from f left ≡ step.Next (progress_of g))
   unfolding checking step_from step_shown
-  passed_value field h e = go (withField f field) refl e
+  passed_value field h e = go (with_field f field) refl e
     where
-      go : (read : Checked Fields) → withField f field ≡ read → Good ≡ checking read
-          → (g : Fields) × (withField f field ≡ good g) × (step_from f left ≡ step.Next (progress_of g))
+      go : (read : Checked Fields) → with_field f field ≡ read → Good ≡ checking read
+          → (g : Fields) × (with_field f field ≡ good g) × (step_from f left ≡ step.Next (progress_of g))
       go (bad why) k e = absurd (let z : ◌≡◌ {A = ℕ} 0 1 = cc in omega arith)
       go (good g) k e = (g, k, rw (h, k))
 
@@ -141,23 +141,23 @@ module _ (file : List ℕ) (progress : Progress) (f : Fields) (b : Begun file pr
   whole_file = rw position b.is
 
   -- the field whose head was read, with its value cut from the file
-  pub cut_field : (tag size : ℕ) (value : List ℕ) → head.Field tag size ≡ head_shown (fieldRead f (drop progress.at file))
+  pub cut_field : (tag size : ℕ) (value : List ℕ) → head.Field tag size ≡ head_shown (field_read f (drop progress.at file))
       → value ≡ value_at (record { start = progress.at + 3; size = size }) file
-      → fieldRead f (drop progress.at file) ≡ good (record { tag = tag; value = value })
+      → field_read f (drop progress.at file) ≡ good (record { tag = tag; value = value })
   unfolding value_at part
   cut_field tag size value found is =
       rw (is, ← drop-drop) (headed_field f (drop progress.at file) tag size found).0
 
   -- it is a rule: the record whose number is the count of the rules so far
-  pub apart_field : (tag size : ℕ) (value : List ℕ) → head.Field tag size ≡ head_shown (fieldRead f (drop progress.at file))
+  pub apart_field : (tag size : ℕ) (value : List ℕ) → head.Field tag size ≡ head_shown (field_read f (drop progress.at file))
       → value ≡ value_at (record { start = progress.at + 3; size = size }) file
-      → (count : ℕ) → Apart 3 count file → tag ≡ rule-tag → progress.layout.rules < count
+      → (count : ℕ) → Apart 3 count file → tag ≡ rule_tag → progress.layout.rules < count
       → known (rule_of value) (take progress.layout.rules (catalogue_of 3 file)) ≡ false
   unfolding value_at Apart
   apart_field tag size value found is count apart e below =
       let left = drop progress.at file in
       let read = cut_field tag size value found is in
-      let stands : CanStand f rule-tag = subst (CanStand f) e (read_stands f left tag value read) in
+      let stands : CanStand f rule_tag = subst (CanStand f) e (read_stands f left tag value read) in
       let right : length value ≡ 27 = rule_size e (read_right f left tag value read) in
       let long : size ≡ 27 =
       omega (arith, right, read_long f left tag value read, (headed_field f left tag size found).2) in
@@ -167,7 +167,7 @@ module _ (file : List ℕ) (progress : Progress) (f : Fields) (b : Begun file pr
       (ap (λ (at : ℕ). part (at + 3) 27 file) (sym at_rule) ∙ ap (λ (n : ℕ). part (progress.at + 3) n file) (sym long) ∙ sym is)
       (apart progress.layout.rules below)
 
-  pub field_inside : (tag size : ℕ) → head.Field tag size ≡ head_shown (fieldRead f (drop progress.at file))
+  pub field_inside : (tag size : ℕ) → head.Field tag size ≡ head_shown (field_read f (drop progress.at file))
       → progress.at + 3 + size ≤ length file
   field_inside tag size found = omega (arith, left_long, (headed_field f (drop progress.at file) tag size found).1)
 
@@ -178,9 +178,9 @@ module _ (file : List ℕ) (progress : Progress) (f : Fields) (b : Begun file pr
 
     -- its value passes, and its place joins the others
     pub passed_on : (tag size : ℕ) (value : List ℕ) (layout : Layout)
-        → head.Field tag size ≡ head_shown (fieldRead f (drop progress.at file))
+        → head.Field tag size ≡ head_shown (field_read f (drop progress.at file))
         → value ≡ value_at (record { start = progress.at + 3; size = size }) file
-        → Good ≡ checking (withField f (record { tag = tag; value = value }))
+        → Good ≡ checking (with_field f (record { tag = tag; value = value }))
         → ((f g : Fields) (value : List ℕ) → More f tag value g → progress.layout ≡ layout_so_far f
         → ◌≡◌ {A = Span} (record { start = progress.at + 3; size = size }) (span_from (length (fields_bytes f)) value)
         → layout ≡ layout_so_far g)
@@ -246,41 +246,41 @@ module _ (file : List ℕ) (progress : Progress) (f : Fields) (b : Begun file pr
             rw named
 
 -- The end of the file: 3 where no target is there.
-pub ended_early : (f : Fields) → lastTag f < target-tag → (at : ℕ) → Refused (record { why = NoTarget; at = at }) ≡ shown (atEnd f at)
-unfolding lastTag tagOr atEnd shown
+pub ended_early : (f : Fields) → last_tag f < target_tag → (at : ℕ) → Refused (record { why = NoTarget; at = at }) ≡ shown (at_end f at)
+unfolding last_tag tag_or at_end shown
 ended_early f below at = go f.catalogue f.initial f.target f.default f.keep f.script below
   where
     go : (c : List Rule) (i t : Option (List ℕ)) (d : Option Action) (k : Option (List ℕ)) (s : Option Script)
-        → lastTag (fields c i t d k s) < target-tag → Refused (record { why = NoTarget; at = at }) ≡ shown (atEnd (fields c i t d k s) at)
+        → last_tag (fields c i t d k s) < target_tag → Refused (record { why = NoTarget; at = at }) ≡ shown (at_end (fields c i t d k s) at)
     go c i none d k s h = refl
     go c i (some t) none none none h = absurd (omega arith)
     go c i (some t) (some d) none none h = absurd (omega arith)
     go c i (some t) d (some k) none h = absurd (omega arith)
     go c i (some t) d k (some s) h = absurd (omega arith)
 
-pub ended_late : (f : Fields) → Readable f → target-tag ≤ lastTag f → (at : ℕ) → Accepted (layout_so_far f) ≡ shown (atEnd f at)
-unfolding lastTag tagOr tagsAfter mem atEnd shown layout_so_far layout_of listed keep_bytes action_bytes span_if default_of default_field
+pub ended_late : (f : Fields) → Readable f → target_tag ≤ last_tag f → (at : ℕ) → Accepted (layout_so_far f) ≡ shown (at_end f at)
+unfolding last_tag tag_or tags_after mem at_end shown layout_so_far layout_of listed keep_bytes action_bytes span_if default_of default_field
 ended_late f r above at = go f.catalogue f.initial f.target f.default f.keep f.script r above
   where
     go : (c : List Rule) (i t : Option (List ℕ)) (d : Option Action) (k : Option (List ℕ)) (s : Option Script) → Readable (fields c i t d k s)
-        → target-tag ≤ lastTag (fields c i t d k s) → Accepted (layout_so_far (fields c i t d k s)) ≡ shown (atEnd (fields c i t d k s) at)
+        → target_tag ≤ last_tag (fields c i t d k s) → Accepted (layout_so_far (fields c i t d k s)) ≡ shown (at_end (fields c i t d k s) at)
     go c (some i) (some t) none k s r h = refl
     go c (some i) (some t) (some d) k s r h = rw r.default.1
-    go c none (some t) d k s r h = absurd (not_mem target-tag (tagsAfter rule-tag) refl r.target.0)
-    go c i none (some d) k s r h = absurd (late i default-tag (omega arith) r.default.0)
-    go c i none none (some k) s r h = absurd (late i keep-tag (omega arith) r.keep.0)
-    go c i none none none (some s) r h = absurd (late i script-tag (omega arith) r.script.0)
+    go c none (some t) d k s r h = absurd (not_mem target_tag (tags_after rule_tag) refl r.target.0)
+    go c i none (some d) k s r h = absurd (late i default_tag (omega arith) r.default.0)
+    go c i none none (some k) s r h = absurd (late i keep_tag (omega arith) r.keep.0)
+    go c i none none none (some s) r h = absurd (late i script_tag (omega arith) r.script.0)
     go c none none none none none r h = absurd (omega arith)
     go c (some i) none none none none r h = absurd (omega arith)
 
 -- At the start nothing has been read; at the end the fields are all there are.
 pub begun_at_start : (file : List ℕ) → Begun file (progress_of nothing) nothing
-unfolding nothing fields_bytes ifThere joined
+unfolding nothing fields_bytes if_there joined
 begun_at_start file = record { readable = nothing_readable; is = refl; known = refl }
 
 pub ended_right : (file : List ℕ) (progress : Progress) (f : Fields) → Begun file progress f → length file ≤ progress.at
-    → shown (atEnd f progress.at) ≡ file_read file
-unfolding file_read readFile readFrom progress_of
+    → shown (at_end f progress.at) ≡ file_read file
+unfolding file_read read_file read_from progress_of
 ended_right file progress f b past =
     let position : progress.at ≡ length (fields_bytes f) = ap (λ (p : Progress). p.at) b.known in
     let all : length file ≤ length (fields_bytes f) = omega arith in

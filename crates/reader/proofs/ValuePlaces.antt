@@ -19,14 +19,14 @@ use Rattle.deployment.specs.Catalogue.{record_count, records_of, catalogue_of}
 use Rattle.deployment.specs.File.{
   Fields,
   listed,
-  fieldBytes,
-  ifThere,
-  rule-tag,
-  initial-tag,
-  target-tag,
-  default-tag,
-  keep-tag,
-  script-tag,
+  field_bytes,
+  if_there,
+  rule_tag,
+  initial_tag,
+  target_tag,
+  default_tag,
+  keep_tag,
+  script_tag,
 }
 use Rattle.deployment.specs.Properties.{Recordable, CanStand, fields_bytes}
 use Rattle.deployment.proofs.Records.{part_between}
@@ -60,15 +60,15 @@ cut_least span bytes start size from long =
 
 -- A field that stands behind other bytes: its value, and where it ends.
 pub value_stands : (before : List ℕ) (tag : ℕ) (value after : List ℕ)
-    → value_at (span_from (length before) value) (before ++ (fieldBytes tag value ++ after)) ≡ value
-unfolding value_at span_from part fieldBytes bytes_of
+    → value_at (span_from (length before) value) (before ++ (field_bytes tag value ++ after)) ≡ value
+unfolding value_at span_from part field_bytes bytes_of
 value_stands before tag value after =
-    rw (drop-append-add before (fieldBytes tag value ++ after) 3) (take_at value after (length value) refl)
+    rw (drop-append-add before (field_bytes tag value ++ after) 3) (take_at value after (length value) refl)
 
 module _ (before : List ℕ) (tag : ℕ) where
   pub list_stands : (o : Option (List ℕ)) (after : List ℕ)
-      → value_at (span_if (length before) (keep_bytes o)) (before ++ (ifThere tag numbers_bytes o ++ after)) ≡ numbers_bytes (listed o)
-  unfolding value_at span_if absent keep_bytes ifThere part listed numbers_bytes joined
+      → value_at (span_if (length before) (keep_bytes o)) (before ++ (if_there tag numbers_bytes o ++ after)) ≡ numbers_bytes (listed o)
+  unfolding value_at span_if absent keep_bytes if_there part listed numbers_bytes joined
   list_stands none after = refl
   list_stands (some l) after = value_stands before tag (numbers_bytes l) after
 
@@ -76,39 +76,39 @@ module _ (before : List ℕ) (tag : ℕ) where
   module _ {A : Type 0} (written : A → List ℕ) (bytes : Option A → Option (List ℕ))
       (absent-bytes : bytes none ≡ none) (there-bytes : (a : A) → bytes (some a) ≡ some (written a)) where
     part_stands : (o : Option A) (after : List ℕ)
-        → value_at (span_if (length before) (bytes o)) (before ++ (ifThere tag written o ++ after))
+        → value_at (span_if (length before) (bytes o)) (before ++ (if_there tag written o ++ after))
         ≡ elim o [ none ↦ [] | some a ↦ written a ]
-    unfolding value_at span_if absent ifThere part
+    unfolding value_at span_if absent if_there part
     part_stands none after = rw absent-bytes
     part_stands (some a) after = rw (there-bytes a) (value_stands before tag (written a) after)
 
-    part_ends : (o : Option A) → length (before ++ ifThere tag written o) ≡ end_of (length before) (bytes o)
-    unfolding end_of ifThere
+    part_ends : (o : Option A) → length (before ++ if_there tag written o) ≡ end_of (length before) (bytes o)
+    unfolding end_of if_there
     part_ends none = rw absent-bytes (ap length (append-nil before))
     part_ends (some a) =
-        rw (there-bytes a) (omega (arith, length-append before (fieldBytes tag (written a)), length_field tag (written a)))
+        rw (there-bytes a) (omega (arith, length-append before (field_bytes tag (written a)), length_field tag (written a)))
 
   pub action_stands : (o : Option Action) (after : List ℕ)
-      → value_at (span_if (length before) (action_bytes o)) (before ++ (ifThere tag default_bytes o ++ after))
+      → value_at (span_if (length before) (action_bytes o)) (before ++ (if_there tag default_bytes o ++ after))
       ≡ elim o [ none ↦ [] | some action ↦ default_bytes action ]
   unfolding action_bytes
   action_stands = part_stands default_bytes action_bytes refl (λ a. refl)
 
   pub script_stands : (o : Option Script) (after : List ℕ)
-      → value_at (span_if (length before) (command_bytes o)) (before ++ (ifThere tag script_bytes o ++ after))
+      → value_at (span_if (length before) (command_bytes o)) (before ++ (if_there tag script_bytes o ++ after))
       ≡ elim o [ none ↦ [] | some script ↦ script_bytes script ]
   unfolding command_bytes
   script_stands = part_stands script_bytes command_bytes refl (λ s. refl)
 
-  pub list_ends : (o : Option (List ℕ)) → length (before ++ ifThere tag numbers_bytes o) ≡ end_of (length before) (keep_bytes o)
+  pub list_ends : (o : Option (List ℕ)) → length (before ++ if_there tag numbers_bytes o) ≡ end_of (length before) (keep_bytes o)
   unfolding keep_bytes
   list_ends = part_ends numbers_bytes keep_bytes refl (λ l. refl)
 
-  pub action_ends : (o : Option Action) → length (before ++ ifThere tag default_bytes o) ≡ end_of (length before) (action_bytes o)
+  pub action_ends : (o : Option Action) → length (before ++ if_there tag default_bytes o) ≡ end_of (length before) (action_bytes o)
   unfolding action_bytes
   action_ends = part_ends default_bytes action_bytes refl (λ a. refl)
 
-  pub script_ends : (o : Option Script) → length (before ++ ifThere tag script_bytes o) ≡ end_of (length before) (command_bytes o)
+  pub script_ends : (o : Option Script) → length (before ++ if_there tag script_bytes o) ≡ end_of (length before) (command_bytes o)
   unfolding command_bytes
   script_ends = part_ends script_bytes command_bytes refl (λ s. refl)
 
@@ -117,16 +117,16 @@ abbrev rules_part : Fields → List ℕ
 rules_part f = joined (map rule_field f.catalogue)
 
 abbrev initial_part : Fields → List ℕ
-initial_part f = rules_part f ++ ifThere initial-tag numbers_bytes f.initial
+initial_part f = rules_part f ++ if_there initial_tag numbers_bytes f.initial
 
 abbrev target_part : Fields → List ℕ
-target_part f = initial_part f ++ ifThere target-tag numbers_bytes f.target
+target_part f = initial_part f ++ if_there target_tag numbers_bytes f.target
 
 abbrev default_part : Fields → List ℕ
-default_part f = target_part f ++ ifThere default-tag default_bytes f.default
+default_part f = target_part f ++ if_there default_tag default_bytes f.default
 
 abbrev keep_part : Fields → List ℕ
-keep_part f = default_part f ++ ifThere keep-tag numbers_bytes f.keep
+keep_part f = default_part f ++ if_there keep_tag numbers_bytes f.keep
 
 module _ (f : Fields) where
   rules_end : length (rules_part f) ≡ length f.catalogue * 30
@@ -151,43 +151,43 @@ module _ (f : Fields) where
   module _ (left : List ℕ) where
     pub initial_stands : value_at (layout_so_far f).initial (fields_bytes f ++ left) ≡ numbers_bytes (listed f.initial)
     unfolding layout_so_far fields_bytes
-    initial_stands = simp (append_assoc, ← rules_end) (list_stands (rules_part f) initial-tag f.initial _)
+    initial_stands = simp (append_assoc, ← rules_end) (list_stands (rules_part f) initial_tag f.initial _)
 
     pub target_stands : value_at (layout_so_far f).target (fields_bytes f ++ left) ≡ numbers_bytes (listed f.target)
     unfolding layout_so_far fields_bytes
     target_stands =
-        rw (← initial_end) (rw regrouped (list_stands (initial_part f) target-tag f.target _))
+        rw (← initial_end) (rw regrouped (list_stands (initial_part f) target_tag f.target _))
       where
         regrouped : fields_bytes f ++ left
-            ≡ initial_part f ++ (ifThere target-tag numbers_bytes f.target
-            ++ (ifThere default-tag default_bytes f.default
-            ++ (ifThere keep-tag numbers_bytes f.keep ++ (ifThere script-tag script_bytes f.script ++ left))))
+            ≡ initial_part f ++ (if_there target_tag numbers_bytes f.target
+            ++ (if_there default_tag default_bytes f.default
+            ++ (if_there keep_tag numbers_bytes f.keep ++ (if_there script_tag script_bytes f.script ++ left))))
         regrouped = simp append_assoc
 
     pub default_part_stands : value_at (layout_so_far f).default (fields_bytes f ++ left)
         ≡ elim f.default [ none ↦ [] | some action ↦ default_bytes action ]
     unfolding layout_so_far fields_bytes
-    default_part_stands = rw (← target_end) (rw regrouped (action_stands (target_part f) default-tag f.default _))
+    default_part_stands = rw (← target_end) (rw regrouped (action_stands (target_part f) default_tag f.default _))
       where
         regrouped : fields_bytes f ++ left
-            ≡ target_part f ++ (ifThere default-tag default_bytes f.default
-            ++ (ifThere keep-tag numbers_bytes f.keep ++ (ifThere script-tag script_bytes f.script ++ left)))
+            ≡ target_part f ++ (if_there default_tag default_bytes f.default
+            ++ (if_there keep_tag numbers_bytes f.keep ++ (if_there script_tag script_bytes f.script ++ left)))
         regrouped = simp append_assoc
 
     pub keep_stands : value_at (layout_so_far f).keep (fields_bytes f ++ left) ≡ numbers_bytes (listed f.keep)
     unfolding layout_so_far fields_bytes
-    keep_stands = rw (← default_end) (rw regrouped (list_stands (default_part f) keep-tag f.keep _))
+    keep_stands = rw (← default_end) (rw regrouped (list_stands (default_part f) keep_tag f.keep _))
       where
         regrouped : fields_bytes f ++ left
-            ≡ default_part f ++ (ifThere keep-tag numbers_bytes f.keep ++ (ifThere script-tag script_bytes f.script ++ left))
+            ≡ default_part f ++ (if_there keep_tag numbers_bytes f.keep ++ (if_there script_tag script_bytes f.script ++ left))
         regrouped = simp append_assoc
 
     pub script_part_stands : value_at (layout_so_far f).script (fields_bytes f ++ left)
         ≡ elim f.script [ none ↦ [] | some script ↦ script_bytes script ]
     unfolding layout_so_far fields_bytes
-    script_part_stands = rw (← keep_end) (rw regrouped (script_stands (keep_part f) script-tag f.script left))
+    script_part_stands = rw (← keep_end) (rw regrouped (script_stands (keep_part f) script_tag f.script left))
       where
-        regrouped : fields_bytes f ++ left ≡ keep_part f ++ (ifThere script-tag script_bytes f.script ++ left)
+        regrouped : fields_bytes f ++ left ≡ keep_part f ++ (if_there script_tag script_bytes f.script ++ left)
         regrouped = simp append_assoc
 
   -- the bytes so far end where the last piece does
@@ -198,10 +198,10 @@ module _ (f : Fields) where
       (keep_bytes f.keep))
       (command_bytes f.script)
   unfolding fields_bytes
-  fields_end = rw (← keep_end, ← script_ends (keep_part f) script-tag) (simp append_assoc)
+  fields_end = rw (← keep_end, ← script_ends (keep_part f) script_tag) (simp append_assoc)
 
 -- before the initial policy they are those of the rules alone
-pub rules_alone : (f : Fields) → CanStand f rule-tag → length (fields_bytes f) ≡ length f.catalogue * 30
+pub rules_alone : (f : Fields) → CanStand f rule_tag → length (fields_bytes f) ≡ length f.catalogue * 30
 unfolding end_of keep_bytes action_bytes command_bytes
 rules_alone f h =
     let none_there = before_rule f h in
@@ -224,7 +224,7 @@ chunks_front width (piece ∷ pieces) count rest h =
     )
 
 behind_head : (rule : Rule) → drop 3 (rule_field rule) ≡ rule_bytes rule
-unfolding fieldBytes bytes_of
+unfolding field_bytes bytes_of
 behind_head rule = refl
 
 pub catalogue_front : (c : List Rule) (rest : List ℕ) → ((rule : Rule) → Memᴰ rule c → Recordable rule)
@@ -256,4 +256,4 @@ rule_stands before rule behind after =
     let size : (rule_span (length before)).size ≡ span.size = sym (length_rule rule) in
     let place : rule_span (length before) ≡ span = λ j. record { start = start j; size = size j } in
     rw (place, map-append, joined_append, append_assoc, append_assoc)
-    (value_stands front rule-tag (rule_bytes rule) (joined (map rule_field behind) ++ after))
+    (value_stands front rule_tag (rule_bytes rule) (joined (map rule_field behind) ++ after))

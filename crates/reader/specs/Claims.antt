@@ -7,15 +7,15 @@ use Rattle.policy.specs.Rule.{Rule}
 use Rattle.deployment.specs.Checked.{refusal_numbers}
 use Rattle.deployment.specs.Values.{
   Script,
-  rule-bytes,
-  default-bytes,
-  ruleBytes,
-  numbersOf,
-  numbersBytes,
-  defaultBytes,
-  defaultField,
-  scriptOf,
-  scriptBytes,
+  rule_bytes_lem,
+  default_bytes_lem,
+  rule_bytes,
+  numbers_of,
+  numbers_bytes,
+  default_bytes,
+  default_field,
+  script_of,
+  script_bytes,
 }
 use Rattle.policy.specs.declared.Action.{Action}
 use Rattle.deployment.specs.Catalogue.{catalogue_of}
@@ -35,19 +35,19 @@ use Rattle.reader.specs.declared.FileRead.TheVariants.{Accepted, Refused}
 
 -- the part at a place is a list, in bytes and in numbers
 pub record ListStands (file : List ℕ) (span : Span) (l : List ℕ) : Type 0 where
-  pub bytes : value_at span file ≡ numbersBytes l
-  pub numbers : numbersOf (value_at span file) ≡ l
+  pub bytes : value_at span file ≡ numbers_bytes l
+  pub numbers : numbers_of (value_at span file) ≡ l
   pub size : span.size ≡ 2 * length l
 
 -- the part at a place is a default
 pub record DefaultStands (file : List ℕ) (span : Span) (action : Action) : Type 0 where
-  pub bytes : value_at span file ≡ defaultBytes action
-  pub size : span.size ≡ default-bytes
+  pub bytes : value_at span file ≡ default_bytes action
+  pub size : span.size ≡ default_bytes_lem
 
 -- the part at a place is a script
 pub record ScriptStands (file : List ℕ) (span : Span) (s : Script) : Type 0 where
-  pub bytes : value_at span file ≡ scriptBytes s
-  pub script : scriptOf (value_at span file) ≡ some s
+  pub bytes : value_at span file ≡ script_bytes s
+  pub script : script_of (value_at span file) ≡ some s
   pub size : span.size ≡ 1 + 5 * length s.commands
 
 -- contents stand in a file at these places; the rules in its first bytes, each behind the head of its field
@@ -56,14 +56,14 @@ pub record Stands (file : List ℕ) (layout : Layout) (c : Contents) : Type 0 wh
   pub written : file_of c ≡ file
   pub placed : layout_of c ≡ layout
   pub count : layout.rules ≡ length c.catalogue
-  pub catalogue : catalogue_of head_bytes (take ((head_bytes + rule-bytes) * layout.rules) file) ≡ c.catalogue
+  pub catalogue : catalogue_of head_bytes (take ((head_bytes + rule_bytes_lem) * layout.rules) file) ≡ c.catalogue
   pub rule : (before : List Rule) (rule : Rule) (behind : List Rule) → c.catalogue ≡ before ++ (rule ∷ behind)
-      → value_at (rule_span (length before)) file ≡ ruleBytes rule
+      → value_at (rule_span (length before)) file ≡ rule_bytes rule
   pub among : take layout.rules (catalogue_of head_bytes file) ≡ c.catalogue
   pub initial : ListStands file layout.initial c.initial
   pub target : ListStands file layout.target c.target
-  pub has_default : layout.has_default ≡ there (defaultField c.default)
-  pub default : IfThere (DefaultStands file layout.default) (defaultField c.default)
+  pub has_default : layout.has_default ≡ there (default_field c.default)
+  pub default : IfThere (DefaultStands file layout.default) (default_field c.default)
   pub has_keep : layout.has_keep ≡ there c.keep
   pub keep : IfThere (ListStands file layout.keep) c.keep
   pub has_script : layout.has_script ≡ there c.script

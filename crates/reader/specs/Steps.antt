@@ -8,23 +8,23 @@ use Rattle.policy.specs.declared.Action.{Action}
 use Rattle.deployment.specs.Values.{Script, rule_bytes_lem, rule_bytes, numbers_bytes, default_bytes, script_bytes}
 use Rattle.deployment.specs.File.{
   Fields,
-  setCatalogue,
-  setInitial,
-  setTarget,
-  setDefault,
-  setKeep,
-  setScript,
-  lastTag,
+  set_catalogue,
+  set_initial,
+  set_target,
+  set_default,
+  set_keep,
+  set_script,
+  last_tag,
   Field,
-  fieldRead,
-  withField,
+  field_read,
+  with_field,
   head_bytes,
-  rule-tag,
-  initial-tag,
-  target-tag,
-  default-tag,
-  keep-tag,
-  script-tag,
+  rule_tag,
+  initial_tag,
+  target_tag,
+  default_tag,
+  keep_tag,
+  script_tag,
 }
 use Rattle.deployment.specs.Properties.{CanStand, Readable, fields_bytes}
 use Rattle.values.specs.Answers.{there}
@@ -58,7 +58,7 @@ layout_so_far f =
 
 -- what the reader knows of them
 unfoldable pub progress_of : Fields → Progress
-progress_of f = record { at = length (fields_bytes f); last = lastTag f; layout = layout_so_far f }
+progress_of f = record { at = length (fields_bytes f); last = last_tag f; layout = layout_so_far f }
 
 -- these fields have been read from the file's first bytes
 pub record Begun (file : List ℕ) (progress : Progress) (f : Fields) : Type 0 where
@@ -68,12 +68,12 @@ pub record Begun (file : List ℕ) (progress : Progress) (f : Fields) : Type 0 w
 
 -- fields with one more, by its tag, which can stand behind them, and its value
 pub data More (f : Fields) : ℕ → List ℕ → Fields → Type 0 where
-  a_rule : (rule : Rule) → CanStand f rule-tag → More f rule-tag (rule_bytes rule) (setCatalogue f (f.catalogue ++ (rule ∷ [])))
-  an_initial : (i : List ℕ) → CanStand f initial-tag → More f initial-tag (numbers_bytes i) (setInitial f (some i))
-  a_target : (t : List ℕ) → CanStand f target-tag → More f target-tag (numbers_bytes t) (setTarget f (some t))
-  a_default : (d : Action) → CanStand f default-tag → More f default-tag (default_bytes d) (setDefault f (some d))
-  a_keep : (k : List ℕ) → CanStand f keep-tag → More f keep-tag (numbers_bytes k) (setKeep f (some k))
-  a_script : (s : Script) → CanStand f script-tag → More f script-tag (script_bytes s) (setScript f (some s))
+  a_rule : (rule : Rule) → CanStand f rule_tag → More f rule_tag (rule_bytes rule) (set_catalogue f (f.catalogue ++ (rule ∷ [])))
+  an_initial : (i : List ℕ) → CanStand f initial_tag → More f initial_tag (numbers_bytes i) (set_initial f (some i))
+  a_target : (t : List ℕ) → CanStand f target_tag → More f target_tag (numbers_bytes t) (set_target f (some t))
+  a_default : (d : Action) → CanStand f default_tag → More f default_tag (default_bytes d) (set_default f (some d))
+  a_keep : (k : List ℕ) → CanStand f keep_tag → More f keep_tag (numbers_bytes k) (set_keep f (some k))
+  a_script : (s : Script) → CanStand f script_tag → More f script_tag (script_bytes s) (set_script f (some s))
 
 -- a field's head, and a whole field, as the reader shows them
 unfoldable pub head_shown : Checked Field → Head
@@ -87,5 +87,5 @@ step_shown (bad why) = step.Bad why
 -- the field at the head of the bytes that are left, then the tests of its value
 unfoldable pub step_from : Fields → List ℕ → Step
 step_from f left = step_shown (do
-  field ← fieldRead f left
-  withField f field)
+  field ← field_read f left
+  with_field f field)

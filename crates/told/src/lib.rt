@@ -9,16 +9,16 @@ ghost use Rattle.policy.specs.Command.{fault_number};
 ghost use Rattle.deployment.specs.Values.{action_number};
 ghost use Rattle.told.specs.Answers.{
   told,
-  turnedTold,
-  layoutTold,
-  readTold,
-  checkedTold,
-  writtenTold,
-  decidedTold,
-  ranTold,
-  plannedTold,
-  verdictTold,
-  judgedTold,
+  turned_told,
+  layout_told,
+  read_told,
+  checked_told,
+  written_told,
+  decided_told,
+  ran_told,
+  planned_told,
+  verdict_told,
+  judged_told,
   Tells,
 };
 
@@ -72,7 +72,7 @@ fn tell_three(number: u32, a: u64, b: u64, c: u64, answer: &mut [u64]) -> u32
 
 // A refusal: its number and its position.
 fn tell_turned(refusal: Refusal, answer: &mut [u64]) -> u32
-    ensures { Tells (turnedTold refusal) result answer.old answer.new }
+    ensures { Tells (turned_told refusal) result answer.old answer.new }
 {
     let why = refusal.why;
     tell_one(why_number(why) as u32, refusal.at as u64, answer)
@@ -87,7 +87,7 @@ fn tell_fault(fault: Fault, step: usize, answer: &mut [u64]) -> u32
 
 // Where the values of a file stand.
 fn tell_layout(layout: Layout, answer: &mut [u64]) -> u32
-    ensures { Tells (layoutTold layout) result answer.old answer.new }
+    ensures { Tells (layout_told layout) result answer.old answer.new }
 {
     let values: [u64; MOST_VALUES] = [
         layout.rules as u64,
@@ -110,7 +110,7 @@ fn tell_layout(layout: Layout, answer: &mut [u64]) -> u32
 }
 
 pub fn tell_read(found: FileRead, answer: &mut [u64]) -> u32
-    ensures { Tells (readTold found) result answer.old answer.new }
+    ensures { Tells (read_told found) result answer.old answer.new }
 {
     match found {
         FileRead::Accepted(layout) => tell_layout(layout, answer),
@@ -119,7 +119,7 @@ pub fn tell_read(found: FileRead, answer: &mut [u64]) -> u32
 }
 
 pub fn tell_checked(found: Checking, answer: &mut [u64]) -> u32
-    ensures { Tells (checkedTold found) result answer.old answer.new }
+    ensures { Tells (checked_told found) result answer.old answer.new }
 {
     match found {
         Checking::Good => DONE,
@@ -128,7 +128,7 @@ pub fn tell_checked(found: Checking, answer: &mut [u64]) -> u32
 }
 
 pub fn tell_written(written: Written, answer: &mut [u64]) -> u32
-    ensures { Tells (writtenTold written) result answer.old answer.new }
+    ensures { Tells (written_told written) result answer.old answer.new }
 {
     match written {
         Written::Bytes(n) => tell_one(DONE, n as u64, answer),
@@ -147,7 +147,7 @@ fn action_number(action: Action) -> u64
 }
 
 pub fn tell_decided(decided: Decided, answer: &mut [u64]) -> u32
-    ensures { Tells (decidedTold decided) result answer.old answer.new }
+    ensures { Tells (decided_told decided) result answer.old answer.new }
 {
     match decided {
         Decided::Is(d) => {
@@ -159,7 +159,7 @@ pub fn tell_decided(decided: Decided, answer: &mut [u64]) -> u32
 }
 
 pub fn tell_ran(ran: Ran, answer: &mut [u64]) -> u32
-    ensures { Tells (ranTold ran) result answer.old answer.new }
+    ensures { Tells (ran_told ran) result answer.old answer.new }
 {
     match ran {
         Ran::Ended(n) => tell_one(DONE, n as u64, answer),
@@ -169,7 +169,7 @@ pub fn tell_ran(ran: Ran, answer: &mut [u64]) -> u32
 }
 
 pub fn tell_planned(planned: Planned, answer: &mut [u64]) -> u32
-    ensures { Tells (plannedTold planned) result answer.old answer.new }
+    ensures { Tells (planned_told planned) result answer.old answer.new }
 {
     match planned {
         Planned::Done(plan) => tell_three(
@@ -185,7 +185,7 @@ pub fn tell_planned(planned: Planned, answer: &mut [u64]) -> u32
 
 // The number of each verdict, and its values.
 fn tell_verdict(verdict: Verdict, answer: &mut [u64]) -> u32
-    ensures { Tells (verdictTold verdict) result answer.old answer.new }
+    ensures { Tells (verdict_told verdict) result answer.old answer.new }
 {
     match verdict {
         Verdict::Broken(fault, step) => tell_fault(fault, step, answer),
@@ -206,7 +206,7 @@ fn tell_verdict(verdict: Verdict, answer: &mut [u64]) -> u32
 }
 
 pub fn tell_judged(judged: Judged, answer: &mut [u64]) -> u32
-    ensures { Tells (judgedTold judged) result answer.old answer.new }
+    ensures { Tells (judged_told judged) result answer.old answer.new }
 {
     match judged {
         Judged::Said(verdict) => tell_verdict(verdict, answer),

@@ -20,13 +20,13 @@ use Rattle.deployment.specs.Values.{rule_bytes_lem, default_bytes_lem, numbers_o
 use Rattle.deployment.specs.Contents.{rule_read}
 use Rattle.deployment.specs.FieldValues.{
   FieldValues,
-  rulesRead,
-  catalogueValue,
-  policyValue,
-  defaultValue,
-  keepValue,
-  scriptValue,
-  valuesRead,
+  rules_read,
+  catalogue_value,
+  policy_value,
+  default_value,
+  keep_value,
+  script_value,
+  values_read,
 }
 use Rattle.deployment.specs.declared.Why.{Why}
 use Rattle.deployment.proofs.Bytes.{length_chunks}
@@ -53,26 +53,26 @@ failed (bad other) why e = let same : other ≡ why = cc in rw same
 -- Rules that pass: as many as their bytes hold, and no more than may be.
 pub record Rules (value : List ℕ) : Type 0 where
   pub catalogue : List Rule
-  pub read : catalogueValue value ≡ good catalogue
+  pub read : catalogue_value value ≡ good catalogue
   pub counted : length catalogue ≡ length value / rule_bytes_lem
   pub few : min (length value / rule_bytes_lem) 1024 ≡ length value / rule_bytes_lem
 
-rules_count : (done : List Rule) (pieces : List (List ℕ)) (c : List Rule) → rulesRead done pieces ≡ good c
+rules_count : (done : List Rule) (pieces : List (List ℕ)) (c : List Rule) → rules_read done pieces ≡ good c
     → length c ≡ length done + length pieces
-unfolding rulesRead
+unfolding rules_read
 rules_count done [] c e = let same : done ≡ c = cc in rw (← same) (omega arith)
 rules_count done (piece ∷ pieces) c e = go (rule_read done piece) (λ rule. rules_count (done ++ (rule ∷ [])) pieces c) e
   where
     go : (read : Checked Rule)
-        → ((rule : Rule) → rulesRead (done ++ (rule ∷ [])) pieces ≡ good c → length c ≡ length (done ++ (rule ∷ [])) + length pieces)
-        → ◌>>=◌ read (λ rule. rulesRead (done ++ (rule ∷ [])) pieces) ≡ good c → length c ≡ length done + length (piece ∷ pieces)
+        → ((rule : Rule) → rules_read (done ++ (rule ∷ [])) pieces ≡ good c → length c ≡ length (done ++ (rule ∷ [])) + length pieces)
+        → ◌>>=◌ read (λ rule. rules_read (done ++ (rule ∷ [])) pieces) ≡ good c → length c ≡ length done + length (piece ∷ pieces)
     go (good rule) others f = omega (arith, length-append done (rule ∷ []), others rule f)
     go (bad why) others f = bad_good f
 
-pub rules_passed : (value : List ℕ) → Good ≡ checking (catalogueValue value) → Rules value
-unfolding catalogueValue
+pub rules_passed : (value : List ℕ) → Good ≡ checking (catalogue_value value) → Rules value
+unfolding catalogue_value
 rules_passed value e =
-    let found = passed (catalogueValue value) e in
+    let found = passed (catalogue_value value) e in
     let Right : Checked (List Rule) → Type 0 =
     λ read. read ≡ good found.0 → (length found.0 ≡ length value / rule_bytes_lem) × (length value ≤ rule_bytes_lem * most_rules) in
     let count = length value / rule_bytes_lem in
@@ -88,21 +88,21 @@ rules_passed value e =
     record { catalogue = found.0; read = found.1; counted = both.0; few = min-eq_left (omega (arith, both.1)) }
 
 -- A policy that passes is the numbers of its value.
-pub policy_passed : (size : ℕ) (value : List ℕ) → Good ≡ checking (policyValue size value) → policyValue size value ≡ good (numbers_of value)
-unfolding policyValue
+pub policy_passed : (size : ℕ) (value : List ℕ) → Good ≡ checking (policy_value size value) → policy_value size value ≡ good (numbers_of value)
+unfolding policy_value
 policy_passed size value e =
-    let found = passed (policyValue size value) e in
+    let found = passed (policy_value size value) e in
     let Right : Checked (List ℕ) → Type 0 = λ read. read ≡ good found.0 → read ≡ good (numbers_of value) in
     tested Right (list_fits (length value)) (λ odd. bad_good)
     (λ fits. policy_tested_lem Right size value (λ outside. bad_good) (λ inside twice. bad_good) (λ sound passes. refl)) found.1
 
 -- a default that passes is permit where it is there, and deny where it is absent
-pub default_passed : (has : Bool) (value : List ℕ) → Good ≡ checking (defaultValue (given has value))
-    → defaultValue (given has value) ≡ good (cond has Permit Deny)
-unfolding given defaultValue
+pub default_passed : (has : Bool) (value : List ℕ) → Good ≡ checking (default_value (given has value))
+    → default_value (given has value) ≡ good (cond has Permit Deny)
+unfolding given default_value
 default_passed false value e = refl
 default_passed true value e =
-    let found = passed (defaultValue (some value)) e in
+    let found = passed (default_value (some value)) e in
     let Right : Checked Action → Type 0 = λ read. read ≡ good found.0 → read ≡ good Permit in
     tested Right (eqb (length value) default_bytes_lem) (λ long. bad_good)
     (λ fits. default_tested Right value (λ wrong. bad_good) (λ is passes. refl)) found.1
@@ -114,67 +114,67 @@ checking_last (good a) next = refl
 checking_last (bad why) next = refl
 
 -- All values: the first that is turned away decides.
-pub bad_rules : (v : FieldValues) (why : Why) → Bad why ≡ checking (catalogueValue v.rules) → Bad why ≡ checking (valuesRead v)
-unfolding valuesRead checking
-bad_rules v why e = rw (failed (catalogueValue v.rules) why e)
+pub bad_rules : (v : FieldValues) (why : Why) → Bad why ≡ checking (catalogue_value v.rules) → Bad why ≡ checking (values_read v)
+unfolding values_read checking
+bad_rules v why e = rw (failed (catalogue_value v.rules) why e)
 
 module _ (v : FieldValues) (rules : Rules v.rules) where
   -- what `policy_checked` answers to a policy
   abbrev pub Answers : Checking → List ℕ → Type 0
-  Answers answer value = answer ≡ checking (policyValue (min (length v.rules / rule_bytes_lem) 1024) value)
+  Answers answer value = answer ≡ checking (policy_value (min (length v.rules / rule_bytes_lem) 1024) value)
 
   over : (answer : Checking) (value : List ℕ) → Answers answer value
-      → answer ≡ checking (policyValue (length rules.catalogue) value)
+      → answer ≡ checking (policy_value (length rules.catalogue) value)
   over answer value e = rw rules.counted (rw rules.few at e)
 
-  good_policy : (value : List ℕ) → Answers Good value → policyValue (length rules.catalogue) value ≡ good (numbers_of value)
+  good_policy : (value : List ℕ) → Answers Good value → policy_value (length rules.catalogue) value ≡ good (numbers_of value)
   good_policy value e = policy_passed (length rules.catalogue) value (over Good value e)
 
-  bad_policy : (value : List ℕ) (why : Why) → Answers (Bad why) value → policyValue (length rules.catalogue) value ≡ bad why
-  bad_policy value why e = failed (policyValue (length rules.catalogue) value) why (over (Bad why) value e)
+  bad_policy : (value : List ℕ) (why : Why) → Answers (Bad why) value → policy_value (length rules.catalogue) value ≡ bad why
+  bad_policy value why e = failed (policy_value (length rules.catalogue) value) why (over (Bad why) value e)
 
-  pub bad_initial : (why : Why) → Answers (Bad why) v.initial → Bad why ≡ checking (valuesRead v)
-  unfolding valuesRead checking
+  pub bad_initial : (why : Why) → Answers (Bad why) v.initial → Bad why ≡ checking (values_read v)
+  unfolding values_read checking
   bad_initial why e = rw (rules.read, bad_policy v.initial why e)
 
   module _ (initial : Answers Good v.initial) where
-    pub bad_target : (why : Why) → Answers (Bad why) v.target → Bad why ≡ checking (valuesRead v)
-    unfolding valuesRead checking
+    pub bad_target : (why : Why) → Answers (Bad why) v.target → Bad why ≡ checking (values_read v)
+    unfolding values_read checking
     bad_target why e = rw (rules.read, good_policy v.initial initial, bad_policy v.target why e)
 
     module _ (target : Answers Good v.target) where
-      pub bad_default : (why : Why) → Bad why ≡ checking (defaultValue v.default) → Bad why ≡ checking (valuesRead v)
-      unfolding valuesRead checking
+      pub bad_default : (why : Why) → Bad why ≡ checking (default_value v.default) → Bad why ≡ checking (values_read v)
+      unfolding values_read checking
       bad_default why e =
           rw (
             rules.read,
             good_policy v.initial initial,
             good_policy v.target target,
-            failed (defaultValue v.default) why e,
+            failed (default_value v.default) why e,
           )
 
-      module _ (default : Good ≡ checking (defaultValue v.default)) where
-        pub bad_keep : (why : Why) → Bad why ≡ checking (keepValue (numbers_of v.initial) (numbers_of v.target) v.keep)
-            → Bad why ≡ checking (valuesRead v)
-        unfolding valuesRead checking
+      module _ (default : Good ≡ checking (default_value v.default)) where
+        pub bad_keep : (why : Why) → Bad why ≡ checking (keep_value (numbers_of v.initial) (numbers_of v.target) v.keep)
+            → Bad why ≡ checking (values_read v)
+        unfolding values_read checking
         bad_keep why e =
             rw (
               rules.read,
               good_policy v.initial initial,
               good_policy v.target target,
-              (passed (defaultValue v.default) default).1,
-              failed (keepValue (numbers_of v.initial) (numbers_of v.target) v.keep) why e,
+              (passed (default_value v.default) default).1,
+              failed (keep_value (numbers_of v.initial) (numbers_of v.target) v.keep) why e,
             )
 
-        pub by_script : (answer : Checking) → Good ≡ checking (keepValue (numbers_of v.initial) (numbers_of v.target) v.keep)
-            → answer ≡ checking (scriptValue v.script) → answer ≡ checking (valuesRead v)
-        unfolding valuesRead
+        pub by_script : (answer : Checking) → Good ≡ checking (keep_value (numbers_of v.initial) (numbers_of v.target) v.keep)
+            → answer ≡ checking (script_value v.script) → answer ≡ checking (values_read v)
+        unfolding values_read
         by_script answer keep e =
             rw (
               rules.read,
               good_policy v.initial initial,
               good_policy v.target target,
-              (passed (defaultValue v.default) default).1,
-              (passed (keepValue (numbers_of v.initial) (numbers_of v.target) v.keep) keep).1,
+              (passed (default_value v.default) default).1,
+              (passed (keep_value (numbers_of v.initial) (numbers_of v.target) v.keep) keep).1,
             )
-            (e ∙ checking_last (scriptValue v.script) _)
+            (e ∙ checking_last (script_value v.script) _)

@@ -11,13 +11,13 @@ use Rattle.iptables_lines.specs.declared.LineRead.{LineRead}
 use Rattle.iptables_reader.specs.Kept.{line_at, rule_at}
 use Rattle.iptables_reader.proofs.Stepping.{
   line_taken,
-  told-recordable,
-  stepped-open,
-  stepped-close,
-  stepped-over,
-  stepped-turned,
-  stepped-default,
-  stepped-rule,
+  told_recordable,
+  stepped_open,
+  stepped_close,
+  stepped_over,
+  stepped_turned,
+  stepped_default,
+  stepped_rule,
 }
 use Rattle.iptables_reader.proofs.stepped_inside.Statement.{statement}
 use Rattle.iptables_reader.proofs.stepped_inside.Tie as tie
@@ -47,19 +47,19 @@ returns : tie.Need-returns
 returns c f so_far =
     let arm = c.before in
     let read = arm.before.before in
-    rw c.going_on_lem.ensures (stepped-open so_far (line read) (start read).requires.2 (told read ∙ arm.enum_told.given.1))
+    rw c.going_on_lem.ensures (stepped_open so_far (line read) (start read).requires.2 (told read ∙ arm.enum_told.given.1))
 
 returns-2 : tie.Need-returns-2
 returns-2 c f so_far =
     let arm = c.before in
     let read = arm.before.before in
-    rw c.going-on2.ensures (stepped-close so_far (line read) (start read).requires.2 (told read ∙ arm.enum-told2.given.1))
+    rw c.going-on2.ensures (stepped_close so_far (line read) (start read).requires.2 (told read ∙ arm.enum-told2.given.1))
 
 returns-3 : tie.Need-returns-3
 returns-3 c f so_far =
     let arm = c.before in
     let read = arm.before.before in
-    rw c.going-on3.ensures (stepped-over so_far (line read) (start read).requires.2 (told read ∙ arm.enum-told3.given.1))
+    rw c.going-on3.ensures (stepped_over so_far (line read) (start read).requires.2 (told read ∙ arm.enum-told3.given.1))
 
 -- one default more
 returns-4 : tie.Need-returns-4
@@ -67,7 +67,7 @@ returns-4 c f so_far =
     let arm = c.before.before in
     let read = arm.before.before in
     rw c.with_default_lem.ensures
-    (stepped-default so_far (line read) (start read).requires.2 arm.is.given.0.0 (told read ∙ arm.is.given.1))
+    (stepped_default so_far (line read) (start read).requires.2 arm.is.given.0.0 (told read ∙ arm.is.given.1))
 
 -- one rule more, if it is new
 abbrev rule-arm : tie.After-keep-arg2 → tie.After-enum-told4
@@ -84,7 +84,7 @@ unfolding read_told rule_at
 keep-requires c κs =
     let read = rule-read c in
     let (f, so_far) = (start read).pre.3 in
-    ((first_only [] f.rules, so_far.kept), ap (λ (r : LineRead). r.bytes) (read_is read), told-recordable (line read) (is-rule c))
+    ((first_only [] f.rules, so_far.kept), ap (λ (r : LineRead). r.bytes) (read_is read), told_recordable (line read) (is-rule c))
 
 abbrev marks-known : tie.After-slice-known4 → tie.After-marks
 marks-known c = c.before.before.before
@@ -94,14 +94,14 @@ unfolding rule_at
 returns-5 c f so_far =
     let kept = (marks-known c).before in
     let read = rule-read kept.before in
-    stepped-rule so_far (line read) (start read).pre.2 (is-rule kept.before) (kept.keep.ensures (first_only [] f.rules) so_far.kept)
+    stepped_rule so_far (line read) (start read).pre.2 (is-rule kept.before) (kept.keep.ensures (first_only [] f.rules) so_far.kept)
 
 -- the line is turned away
 returns-6 : tie.Need-returns-6
 returns-6 c f so_far =
     let arm = c.before in
     let read = arm.before.before in
-    stepped-turned so_far (line read) (start read).requires.2 arm.is2.given.0.0 (told read ∙ arm.is2.given.1)
+    stepped_turned so_far (line read) (start read).requires.2 arm.is2.given.0.0 (told read ∙ arm.is2.given.1)
 
 sub-line-read : tie.Need-overflow-sub-line-read
 sub-line-read c = search rules

@@ -14,12 +14,12 @@ use Rattle.deployment.proofs.Records.{record_at, record_there, record_whole}
 use Rattle.catalogue.specs.RuleMarks.{mark, may_hold, with_tag, Apart}
 use Rattle.catalogue.proofs.Rules.{records_fit, first_fits}
 use Rattle.catalogue.proofs.Marking.{
-  markAt,
-  holdsMark,
+  mark_at,
+  holds_mark,
   Marked,
   unmarked,
-  unless-suspect,
-  marked-none,
+  unless_suspect,
+  marked_none,
   marked_more,
   apart_none,
   apart_more,
@@ -72,7 +72,7 @@ turn c = cut c.before
 
 marked : (c : tie.After-mark-of invariant-loop decreases-loop)
     → let a = (turn c).before.before.before.before.args in
-    c.mark_of.result ≡ markAt a.skip (turn c).before.loop.k a.rules.now
+    c.mark_of.result ≡ mark_at a.skip (turn c).before.loop.k a.rules.now
 marked c = c.mark_of.ensures.0 ∙ ap mark (rule-is c.before)
 
 -- the k-th rule differs from all before it, where it wasn't found among them
@@ -91,18 +91,18 @@ differs c not_found =
     let m = marking.mark_of.result in
     let known_bytes = head.before.before.shared-slice-known in
     let are : AreBytes rules = elements_are_bytes rules (λ i. omega (arith, known_bytes.given i)) in
-    let suspected : c.before.may-hold.result ≡ holdsMark cells m =
+    let suspected : c.before.may-hold.result ≡ holds_mark cells m =
     c.before.may-hold.ensures ∙ ap (λ tag. may_hold (get_or cells (m / 256) 0) tag) tagged.tag_of.ensures in
-    unless-suspect c.before.may-hold.result _
+    unless_suspect c.before.may-hold.result _
     (rw (← rule-is marking.before) (sym c.known-if.ensures ∙ not_found))
     (λ new.
     unmarked a.skip rules are head.loop.k (fits at) cells head.loop.inv.2
-    (ap (holdsMark cells) (sym (marked marking)) ∙ sym suspected ∙ new))
+    (ap (holds_mark cells) (sym (marked marking)) ∙ sym suspected ∙ new))
 
 loop-holds : tie.Need-loop-init invariant-loop decreases-loop
 loop-holds c =
     let a = c.before.before.args in
-    (omega arith, apart_none a.skip a.rules.now, marked-none a.skip a.rules.now _ (search rules))
+    (omega arith, apart_none a.skip a.rules.now, marked_none a.skip a.rules.now _ (search rules))
 
 other-field-requires : tie.Need-other-field-requires invariant-loop decreases-loop
 other-field-requires c κs = inside c
