@@ -11,6 +11,15 @@ import re
 import sys
 
 OWN = {line.split(":")[0].split()[0] for line in open("crates.txt") if line.strip() and not line.startswith("#")}
+# Numbers of bytes, each beside a function of the same words that gives those bytes, and one row of a table.
+PLAIN = {
+    "decision-bytes": "decision_width",
+    "default-bytes": "default_width",
+    "default-value": "value_of_default",
+    "field-bytes": "field_width",
+    "flow-bytes": "flow_width",
+    "rule-bytes": "rule_width",
+}
 TOKEN = re.compile(r"[^\s(){}\[\];,.:\"`]+")
 DECLARED = re.compile(r"^(\s*)((?:pub |unfoldable |abbrev )*)([^\s:()←→{}]+)(?: *(?:[({].*)?)? :(?: |$)")
 LET = re.compile(r"\blet ([^\s:()={}]+)(?= [:=])")
@@ -70,7 +79,7 @@ def spelling(names):
                 new[name] = plain
         if len(mixed) > 1 or len(olds) > 2:
             print("fall together:", plain, olds)
-    return {old: name for old, name in new.items() if old != name}
+    return {old: name for old, name in {**new, **PLAIN}.items() if old != name}
 
 
 def imports(text):

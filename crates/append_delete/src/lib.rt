@@ -9,7 +9,7 @@ ghost use Rattle.policy.specs.Policy.{most_rules, most_listed};
 ghost use Rattle.policy.specs.Properties.{In};
 ghost use Rattle.policy.specs.Claims.{Admitted};
 ghost use Rattle.deployment.specs.Values.{numbers_of};
-ghost use Rattle.plans.specs.Sending.{Sent, most_planned, field_bytes_lem};
+ghost use Rattle.plans.specs.Sending.{Sent, most_planned, field_width};
 ghost use Rattle.append_delete.specs.DeletesAppends.{deletes, appends};
 ghost use Rattle.plans.specs.Plans.{made_one_of, Placed, placed_plan};
 ghost use Rattle.deployment.specs.FieldValues.{left_by};
@@ -53,7 +53,7 @@ fn marked(list: &[u8], count: usize) -> [bool; MOST_RULES]
 
 // "Delete the initial rules that are not kept, last to first": sends them, and answers how many they are.
 fn send_deletes(initial: &[u8], marks: [bool; MOST_RULES], field: &mut [u8]) -> u16
-    requires { (length field.old ≡ field_bytes_lem) × (length (numbers_of initial.now) ≤ most_rules) × ((r : ℕ) → In r (numbers_of initial.now) → r < most_rules) }
+    requires { (length field.old ≡ field_width) × (length (numbers_of initial.now) ≤ most_rules) × ((r : ℕ) → In r (numbers_of initial.now) → r < most_rules) }
     ensures { (result ≡ length (deletes marks (numbers_of initial.now)))
         × Sent field.old 0 (deletes marks (numbers_of initial.now)) field.new }
 {
@@ -72,7 +72,7 @@ fn send_deletes(initial: &[u8], marks: [bool; MOST_RULES], field: &mut [u8]) -> 
 
 // "Then append the rest of the target in order": sends it behind the commands sent before, and answers how many there are now.
 fn send_appends(target: &[u8], kept: usize, before: u16, field: &mut [u8]) -> u16
-    requires { (length field.old ≡ field_bytes_lem) × (kept ≤ length (numbers_of target.now)) × (before + (length (numbers_of target.now) - kept) ≤ most_planned) }
+    requires { (length field.old ≡ field_width) × (kept ≤ length (numbers_of target.now)) × (before + (length (numbers_of target.now) - kept) ≤ most_planned) }
     ensures { (result ≡ before + length (appends kept (numbers_of target.now)))
         × Sent field.old before (appends kept (numbers_of target.now)) field.new }
 {
@@ -88,7 +88,7 @@ fn send_appends(target: &[u8], kept: usize, before: u16, field: &mut [u8]) -> u1
 // The plan for two policies, in a place for the longest field.
 fn made_one(initial: &[u8], target: &[u8], field: &mut [u8]) -> Plan
     requires { Admitted most_rules (numbers_of initial.now) × (length (numbers_of initial.now) ≤ most_listed) × (length (numbers_of target.now) ≤ most_listed)
-        × (length field.old ≡ field_bytes_lem) }
+        × (length field.old ≡ field_width) }
     ensures { Placed (made_one_of (numbers_of initial.now) (numbers_of target.now)) result field.old field.new }
 {
     let kept = kept_run(initial, target);

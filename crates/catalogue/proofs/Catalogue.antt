@@ -15,7 +15,7 @@ use Rattle.policy.specs.Rule.{Rule}
 use Rattle.policy.proofs.Tests.{by_test}
 use Rattle.deployment.specs.Checked.{Checked, good, bad, ◌>>=◌}
 use Rattle.deployment.specs.Bytes.{part, chunks}
-use Rattle.deployment.specs.Values.{rule_bytes_lem, rule_of, known}
+use Rattle.deployment.specs.Values.{rule_width, rule_of, known}
 use Rattle.deployment.specs.Catalogue.{record_count, catalogue_of}
 use Rattle.deployment.specs.Contents.{rule_read}
 use Rattle.deployment.specs.FieldValues.{rules_read}
@@ -37,9 +37,9 @@ turned_away (good a) next why e = not_good (sym e)
 turned_away (bad other) next why e = e
 
 -- a rule of 27 bytes
-rule_value_lem : (catalogue : List Rule) (value : List ℕ) → length value ≡ rule_bytes_lem → rule_value catalogue value ≡ rule_read catalogue value
+rule_value_lem : (catalogue : List Rule) (value : List ℕ) → length value ≡ rule_width → rule_value catalogue value ≡ rule_read catalogue value
 unfolding rule_value
-rule_value_lem catalogue value long = rw (eq-eqb (length value) rule_bytes_lem long)
+rule_value_lem catalogue value long = rw (eq-eqb (length value) rule_width long)
 
 good_rule : (catalogue : List Rule) (value : List ℕ) (next : Rule → Checked (List Rule))
     → checking (rule_read catalogue value) ≡ Good
@@ -70,62 +70,62 @@ compared_known count differing catalogue rule =
 
 -- the rules from the k-th on, read after the first k
 abbrev pub read_on : ℕ → List ℕ → Checked (List Rule)
-read_on k bytes = rules_read (take k (catalogue_of 0 bytes)) (drop k (chunks rule_bytes_lem (length bytes / rule_bytes_lem) bytes))
+read_on k bytes = rules_read (take k (catalogue_of 0 bytes)) (drop k (chunks rule_width (length bytes / rule_width) bytes))
 
 module _ (k : ℕ) (bytes : List ℕ) where
-  module _ (inside : k < length bytes / rule_bytes_lem) where
-    pub piece_long : length (part (k * rule_bytes_lem) rule_bytes_lem bytes) ≡ rule_bytes_lem
-    piece_long = length_part (k * rule_bytes_lem) rule_bytes_lem bytes (piece_fits rule_bytes_lem (length bytes) k inside)
+  module _ (inside : k < length bytes / rule_width) where
+    pub piece_long : length (part (k * rule_width) rule_width bytes) ≡ rule_width
+    piece_long = length_part (k * rule_width) rule_width bytes (piece_fits rule_width (length bytes) k inside)
 
-    pieces_on : drop k (chunks rule_bytes_lem (length bytes / rule_bytes_lem) bytes)
-        ≡ part (k * rule_bytes_lem) rule_bytes_lem bytes ∷ drop (k + 1) (chunks rule_bytes_lem (length bytes / rule_bytes_lem) bytes)
+    pieces_on : drop k (chunks rule_width (length bytes / rule_width) bytes)
+        ≡ part (k * rule_width) rule_width bytes ∷ drop (k + 1) (chunks rule_width (length bytes / rule_width) bytes)
     pieces_on =
-        let count = length bytes / rule_bytes_lem in
+        let count = length bytes / rule_width in
         rw (
-          drop-cons (chunks rule_bytes_lem count bytes) k [] (omega (arith, length_chunks rule_bytes_lem count bytes)),
-          chunk_at rule_bytes_lem count bytes k inside,
+          drop-cons (chunks rule_width count bytes) k [] (omega (arith, length_chunks rule_width count bytes)),
+          chunk_at rule_width count bytes k inside,
           add-one k,
         )
 
     rules_on : take (k + 1) (catalogue_of 0 bytes)
-        ≡ take k (catalogue_of 0 bytes) ++ (rule_of (part (k * rule_bytes_lem) rule_bytes_lem bytes) ∷ [])
+        ≡ take k (catalogue_of 0 bytes) ++ (rule_of (part (k * rule_width) rule_width bytes) ∷ [])
     unfolding record_count
     rules_on =
         rw (
           add-one k,
           take-suc (catalogue_of 0 bytes) k (rule_of (drop 0 [])) (omega (arith, catalogue_length 0 bytes)),
           rule_at_lem 0 bytes k inside,
-          add-zero (k * rule_bytes_lem),
+          add-zero (k * rule_width),
         )
 
-    tested : checking (rule_value (take k (catalogue_of 0 bytes)) (part (k * rule_bytes_lem) rule_bytes_lem bytes))
-        ≡ checking (rule_read (take k (catalogue_of 0 bytes)) (part (k * rule_bytes_lem) rule_bytes_lem bytes))
+    tested : checking (rule_value (take k (catalogue_of 0 bytes)) (part (k * rule_width) rule_width bytes))
+        ≡ checking (rule_read (take k (catalogue_of 0 bytes)) (part (k * rule_width) rule_width bytes))
     tested =
-        ap (λ r. checking r) (rule_value_lem (take k (catalogue_of 0 bytes)) (part (k * rule_bytes_lem) rule_bytes_lem bytes) piece_long)
+        ap (λ r. checking r) (rule_value_lem (take k (catalogue_of 0 bytes)) (part (k * rule_width) rule_width bytes) piece_long)
 
-    pub read_further : checking (rule_value (take k (catalogue_of 0 bytes)) (part (k * rule_bytes_lem) rule_bytes_lem bytes)) ≡ Good
+    pub read_further : checking (rule_value (take k (catalogue_of 0 bytes)) (part (k * rule_width) rule_width bytes)) ≡ Good
         → checking (read_on k bytes) ≡ checking (read_on (k + 1) bytes)
     unfolding rules_read
     read_further e =
         rw (pieces_on, rules_on)
-        (good_rule (take k (catalogue_of 0 bytes)) (part (k * rule_bytes_lem) rule_bytes_lem bytes)
+        (good_rule (take k (catalogue_of 0 bytes)) (part (k * rule_width) rule_width bytes)
         (λ rule.
-        rules_read (take k (catalogue_of 0 bytes) ++ (rule ∷ [])) (drop (k + 1) (chunks rule_bytes_lem (length bytes / rule_bytes_lem) bytes)))
+        rules_read (take k (catalogue_of 0 bytes) ++ (rule ∷ [])) (drop (k + 1) (chunks rule_width (length bytes / rule_width) bytes)))
         (sym tested ∙ e))
 
     pub read_stops : (why : Why)
-        → checking (rule_value (take k (catalogue_of 0 bytes)) (part (k * rule_bytes_lem) rule_bytes_lem bytes)) ≡ Bad why
+        → checking (rule_value (take k (catalogue_of 0 bytes)) (part (k * rule_width) rule_width bytes)) ≡ Bad why
         → checking (read_on k bytes) ≡ Bad why
     unfolding rules_read
     read_stops why e =
         rw pieces_on
-        (turned_away (rule_read (take k (catalogue_of 0 bytes)) (part (k * rule_bytes_lem) rule_bytes_lem bytes))
+        (turned_away (rule_read (take k (catalogue_of 0 bytes)) (part (k * rule_width) rule_width bytes))
         (λ rule.
-        rules_read (take k (catalogue_of 0 bytes) ++ (rule ∷ [])) (drop (k + 1) (chunks rule_bytes_lem (length bytes / rule_bytes_lem) bytes)))
+        rules_read (take k (catalogue_of 0 bytes) ++ (rule ∷ [])) (drop (k + 1) (chunks rule_width (length bytes / rule_width) bytes)))
         why (sym tested ∙ e))
 
-  pub read_all : length bytes / rule_bytes_lem ≤ k → checking (read_on k bytes) ≡ Good
+  pub read_all : length bytes / rule_width ≤ k → checking (read_on k bytes) ≡ Good
   unfolding rules_read checking
   read_all h =
-      rw (drop_of_length-le (chunks rule_bytes_lem (length bytes / rule_bytes_lem) bytes) {i = k}
-      (omega (arith, length_chunks rule_bytes_lem (length bytes / rule_bytes_lem) bytes)))
+      rw (drop_of_length-le (chunks rule_width (length bytes / rule_width) bytes) {i = k}
+      (omega (arith, length_chunks rule_width (length bytes / rule_width) bytes)))

@@ -16,7 +16,7 @@ use Rattle.policy.specs.Rule.{Rule}
 use Rattle.policy.proofs.Tests.{by_test, never, and_both, falsely, or_left, or_right, or_either}
 use Rattle.policy.proofs.Lists.{same_eq}
 use Rattle.deployment.specs.Bytes.{part}
-use Rattle.deployment.specs.Values.{rule_bytes_lem, rule_of, same_rule, known}
+use Rattle.deployment.specs.Values.{rule_width, rule_of, same_rule, known}
 use Rattle.deployment.specs.Catalogue.{record_count, catalogue_of}
 use Rattle.deployment.specs.Properties.{AreBytes}
 use Rattle.deployment.proofs.Bytes.{length_part, are_bytes_part}
@@ -85,9 +85,9 @@ pub record Marked (skip count : ℕ) (bytes : List ℕ) (cells : List ℕ) : Typ
   pub long : length cells ≡ 8192
   pub all : (j : ℕ) → j < count → holds_mark cells (mark_at skip j bytes) ≡ true
 
-module _ (skip : ℕ) (bytes : List ℕ) (are : AreBytes bytes) (k : ℕ) (fits : suc k * (skip + rule_bytes_lem) ≤ length bytes) where
+module _ (skip : ℕ) (bytes : List ℕ) (are : AreBytes bytes) (k : ℕ) (fits : suc k * (skip + rule_width) ≤ length bytes) where
   long : (j : ℕ) → j < suc k → length (record_at skip j bytes) ≡ 27
-  long j h = length_part (j * (skip + rule_bytes_lem) + skip) 27 bytes (first_fits skip (suc k) bytes fits j h)
+  long j h = length_part (j * (skip + rule_width) + skip) 27 bytes (first_fits skip (suc k) bytes fits j h)
 
   same_mark : (j : ℕ) → j < k → same_rule (rule_of (record_at skip j bytes)) (rule_of (record_at skip k bytes)) ≡ true
       → mark_at skip j bytes ≡ mark_at skip k bytes
@@ -96,7 +96,7 @@ module _ (skip : ℕ) (bytes : List ℕ) (are : AreBytes bytes) (k : ℕ) (fits 
       let a = record_at skip j bytes in
       let b = record_at skip k bytes in
       let bytes_of : (n : ℕ) → AreBytes (record_at skip n bytes) =
-      λ n. are_bytes_part (n * (skip + rule_bytes_lem) + skip) 27 bytes are in
+      λ n. are_bytes_part (n * (skip + rule_width) + skip) 27 bytes are in
       let both = and_both (beq (eqb (get_or a 0 0) 1) (eqb (get_or b 0 0) 1)) (same (drop 1 a) (drop 1 b))
       (sym (same_rule_bytes a b (bytes_of j) (bytes_of k) (long j (omega arith)) (long k (omega arith))) ∙ e) in
       marks (eqb (get_or a 0 0) 1) (eqb (get_or b 0 0) 1) both.0 (same_eq (drop 1 a) (drop 1 b) both.1)
@@ -112,7 +112,7 @@ module _ (skip : ℕ) (bytes : List ℕ) (are : AreBytes bytes) (k : ℕ) (fits 
   pub unmarked : (cells : List ℕ) → Marked skip k bytes cells → holds_mark cells (mark_at skip k bytes) ≡ false
       → known (rule_of (record_at skip k bytes)) (take k (catalogue_of skip bytes)) ≡ false
   unmarked cells m new =
-      let there : k * (skip + rule_bytes_lem) ≤ length bytes = omega (arith, first_fits skip (suc k) bytes fits k (omega arith)) in
+      let there : k * (skip + rule_width) ≤ length bytes = omega (arith, first_fits skip (suc k) bytes fits k (omega arith)) in
       let d = rule_of (drop skip []) in
       known_none (rule_of (record_at skip k bytes)) d (take k (catalogue_of skip bytes))
       (λ j h.

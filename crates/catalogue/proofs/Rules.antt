@@ -19,7 +19,7 @@ use Rattle.policy.specs.declared.Action.TheVariants.{Deny, Permit}
 use Rattle.policy.proofs.Tests.{by_test, never, and_both, both_and}
 use Rattle.policy.proofs.Lists.{same_eq, same_refl}
 use Rattle.deployment.specs.Bytes.{number, part}
-use Rattle.deployment.specs.Values.{rule_bytes_lem, action_of, rule_of, range_at, rising, same_rule, known}
+use Rattle.deployment.specs.Values.{rule_width, action_of, rule_of, range_at, rising, same_rule, known}
 use Rattle.deployment.specs.Catalogue.{record_count, catalogue_of}
 use Rattle.deployment.specs.Properties.{AreBytes}
 use Rattle.deployment.proofs.Records.{part_elements, number_one, record_at, catalogue_length, rule_at_lem}
@@ -104,9 +104,9 @@ module _ (rule : Rule) (catalogue : List Rule) (k : ℕ) where
   known_nowhere h = rw (drop_of_length-le catalogue h)
 
 -- The first rules of a catalogue: as many bytes as so many records have, and all of them where there are fewer.
-pub records_fit : (skip count : ℕ) (bytes : List ℕ) → count ≤ record_count skip bytes → count * (skip + rule_bytes_lem) ≤ length bytes
+pub records_fit : (skip count : ℕ) (bytes : List ℕ) → count ≤ record_count skip bytes → count * (skip + rule_width) ≤ length bytes
 unfolding record_count
-records_fit skip count bytes h = (le-div_iff_mul-le {k = skip + rule_bytes_lem} (omega arith)).0 h
+records_fit skip count bytes h = (le-div_iff_mul-le {k = skip + rule_width} (omega arith)).0 h
 
 pub first_records : (skip count : ℕ) (bytes : List ℕ)
     → take (min count (record_count skip bytes)) (catalogue_of skip bytes) ≡ take count (catalogue_of skip bytes)
@@ -119,17 +119,17 @@ first_records skip count bytes =
     let more = leb-false count (record_count skip bytes) f in
     take_all (min count (record_count skip bytes)) rules (omega arith) ∙ sym (take_all count rules (omega arith)))
 
-module _ (skip count : ℕ) (bytes : List ℕ) (there : count * (skip + rule_bytes_lem) ≤ length bytes) where
+module _ (skip count : ℕ) (bytes : List ℕ) (there : count * (skip + rule_width) ≤ length bytes) where
   enough : count ≤ record_count skip bytes
   unfolding record_count
-  enough = (le-div_iff_mul-le {k = skip + rule_bytes_lem} (omega arith)).1 there
+  enough = (le-div_iff_mul-le {k = skip + rule_width} (omega arith)).1 there
 
   pub first_count : length (take count (catalogue_of skip bytes)) ≡ count
   first_count = length-take-le count (catalogue_of skip bytes) (omega (arith, enough, catalogue_length skip bytes))
 
   module _ (k : ℕ) (inside : k < count) where
-    pub first_fits : k * (skip + rule_bytes_lem) + skip + rule_bytes_lem ≤ length bytes
-    first_fits = omega (arith, suc-mul k (skip + rule_bytes_lem), mul-le-mul_right (skip + rule_bytes_lem) inside)
+    pub first_fits : k * (skip + rule_width) + skip + rule_width ≤ length bytes
+    first_fits = omega (arith, suc-mul k (skip + rule_width), mul-le-mul_right (skip + rule_width) inside)
 
     pub first_at : get_or (take count (catalogue_of skip bytes)) k (rule_of (drop skip [])) ≡ rule_of (record_at skip k bytes)
     first_at =

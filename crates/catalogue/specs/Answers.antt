@@ -2,7 +2,7 @@
 use Rattle.std.specs.Prelude.{ℕ, ◌≡◌, cond, List, [], ◌∷◌, length, take, eqb, ltb}
 use Rattle.policy.specs.Rule.{Rule}
 use Rattle.deployment.specs.Checked.{Checked, good, bad, ◌>>◌, require, why_number}
-use Rattle.deployment.specs.Values.{rule_bytes_lem}
+use Rattle.deployment.specs.Values.{rule_width}
 use Rattle.deployment.specs.Contents.{rule_read}
 use Rattle.deployment.specs.declared.Why.TheVariants.{Length}
 use Rattle.catalogue.specs.declared.Checking.{Checking}
@@ -25,7 +25,7 @@ CheckingNumbersDiffer = (c d : Checking) → checking_numbers c ≡ checking_num
 -- a rule as a field value: 4, then 5, 6
 unfoldable pub rule_value : List Rule → List ℕ → Checked Rule
 rule_value catalogue value = do
-  require (eqb (length value) rule_bytes_lem) Length
+  require (eqb (length value) rule_width) Length
   rule_read catalogue value
 
 -- the earlier rules that rule number `count` is compared with, where the first `differing` are said to differ from all before them

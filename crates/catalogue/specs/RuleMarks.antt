@@ -2,7 +2,7 @@
 -- quick. Assumes nothing.
 use Rattle.std.specs.Prelude.{ℕ, ◌+◌, ◌*◌, ◌/◌, ◌%◌, ◌<◌, ◌≡◌, Bool, false, cond, ◌||◌, List, [], ◌∷◌, take, drop, get_or, eqb}
 use Rattle.deployment.specs.Bytes.{part}
-use Rattle.deployment.specs.Values.{rule_bytes_lem, rule_of, known}
+use Rattle.deployment.specs.Values.{rule_width, rule_of, known}
 use Rattle.deployment.specs.Catalogue.{catalogue_of}
 
 -- byte after byte, each added and then mixed in by a factor
@@ -25,4 +25,4 @@ with_tag cell tag = cond (eqb cell 0) tag 255
 unfoldable pub Apart : ℕ → ℕ → List ℕ → Type 0
 Apart skip count bytes =
     (k : ℕ) → k < count
-    → known (rule_of (part (k * (skip + rule_bytes_lem) + skip) rule_bytes_lem bytes)) (take k (catalogue_of skip bytes)) ≡ false
+    → known (rule_of (part (k * (skip + rule_width) + skip) rule_width bytes)) (take k (catalogue_of skip bytes)) ≡ false

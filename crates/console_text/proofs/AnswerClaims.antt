@@ -87,7 +87,7 @@ value_room m place at (good script) other =
           (λ w. written_numbers w.answer ≡ 13 ∷ at ∷ []
           → (same : Option Script) × (good script ≡ good same) × (length place < length (script_text m (commands_of same)))
           × (at ≡ length (script_text m (commands_of same))))
-          (λ fits e. lent.no-numbers e) (λ small e. (script, refl, small, sym (both_same e).1)),
+          (λ fits e. lent.no_numbers e) (λ small e. (script, refl, small, sym (both_same e).1)),
       λ h.
           let same : script ≡ h.0 = cc in
           lent.sent_cases Turned (Bytes (length text)) text place (λ w. written_numbers w.answer ≡ 13 ∷ at ∷ [])
@@ -110,7 +110,7 @@ module _ (type : ℕ) (place : List ℕ) where
   script_keeps (turned refusal) number at = λ e. refl
   script_keeps (understood commands) number at =
       lent.sent_cases Turned (Bytes (length (field commands))) (field commands) place
-      (λ w. written_numbers w.answer ≡ number ∷ at ∷ [] → w.place ≡ place) (λ fits e. lent.no-numbers e) (λ small e. refl)
+      (λ w. written_numbers w.answer ≡ number ∷ at ∷ [] → w.place ≡ place) (λ fits e. lent.no_numbers e) (λ small e. refl)
 
   script_room : (read : Understood) (at : ℕ) → ¬ (text_numbers read ≡ 13 ∷ at ∷ [])
       → (written_numbers (script_left type read place).answer ≡ 13 ∷ at ∷ [])
@@ -121,7 +121,7 @@ module _ (type : ℕ) (place : List ℕ) where
     lent.sent_cases Turned (Bytes (length (field commands))) (field commands) place
         (λ w. written_numbers w.answer ≡ 13 ∷ at ∷ []
         → (same : List Command) × (understood commands ≡ understood same) × (length place < length (field same)) × (at ≡ length (field same)))
-        (λ fits e. lent.no-numbers e) (λ small e. (commands, refl, small, sym (both_same e).1)),
+        (λ fits e. lent.no_numbers e) (λ small e. (commands, refl, small, sym (both_same e).1)),
     λ h.
         let same : commands ≡ h.0 = cc in
         lent.sent_cases Turned (Bytes (length (field commands))) (field commands) place (λ w. written_numbers w.answer ≡ 13 ∷ at ∷ [])
@@ -136,7 +136,7 @@ module _ (type : ℕ) (place : List ℕ) where
     lent.sent_cases Turned (Bytes (length (field commands))) (field commands) place
         (λ w. written_numbers w.answer ≡ number ∷ at ∷ [] → ◌≡◌ {A = List ℕ} [] (number ∷ at ∷ [])) (λ fits e. e)
         (λ small e. absurd (other (sym (both_same e).0))),
-    λ e. lent.no-numbers e,
+    λ e. lent.no_numbers e,
   )
 
 pub script_keeps_place : ScriptKeepsPlace

@@ -27,8 +27,8 @@ use Rattle.deployment.specs.Checked.{Checked, good, bad, ◌>>=◌}
 use Rattle.deployment.specs.Bytes.{chunks, joined}
 use Rattle.deployment.specs.Values.{
   Script,
-  rule_bytes_lem,
-  default_bytes_lem,
+  rule_width,
+  default_width,
   rule_bytes,
   numbers_of,
   numbers_bytes,
@@ -110,7 +110,7 @@ IsScript value script = IfThere Scripted script × (elim script [ none ↦ none 
 
 rules_good : (done : List Rule) (pieces : List (List ℕ)) (value : List ℕ)
     → Catalogue done → length done + length pieces ≤ most_rules
-    → ((piece : List ℕ) → Memᴰ piece pieces → AreBytes piece × (length piece ≡ rule_bytes_lem))
+    → ((piece : List ℕ) → Memᴰ piece pieces → AreBytes piece × (length piece ≡ rule_width))
     → joined (map rule_bytes done) ++ joined pieces ≡ value → Good (IsCatalogue value) (rules_read done pieces)
 unfolding rules_read joined
 rules_good done [] value h few each e = (h, sym (append-nil (joined (map rule_bytes done))) ∙ e)
@@ -128,16 +128,16 @@ rules_good done (piece ∷ pieces) value h few each e =
 catalogue_good : (value : List ℕ) → AreBytes value → Good (IsCatalogue value) (catalogue_value value)
 unfolding catalogue_value joined
 catalogue_good value b =
-    let count = length value / rule_bytes_lem in
-    tested (Good (IsCatalogue value)) (eqb (length value % rule_bytes_lem) 0) (λ e. tt) λ e.
-    tested (Good (IsCatalogue value)) (leb (length value) (rule_bytes_lem * most_rules)) (λ e. tt) λ f.
-    let long : length value ≡ rule_bytes_lem * count = omega (arith, eqb-true (length value % rule_bytes_lem) 0 e) in
-    let few : length value ≤ rule_bytes_lem * most_rules = leb-true (length value) (rule_bytes_lem * most_rules) f in
-    rules_good [] (chunks rule_bytes_lem count value) value
+    let count = length value / rule_width in
+    tested (Good (IsCatalogue value)) (eqb (length value % rule_width) 0) (λ e. tt) λ e.
+    tested (Good (IsCatalogue value)) (leb (length value) (rule_width * most_rules)) (λ e. tt) λ f.
+    let long : length value ≡ rule_width * count = omega (arith, eqb-true (length value % rule_width) 0 e) in
+    let few : length value ≤ rule_width * most_rules = leb-true (length value) (rule_width * most_rules) f in
+    rules_good [] (chunks rule_width count value) value
     (record { few = zero-le; recordable = λ rule h. absurd (Memᴰ.not-nil h); unlike = tt })
-    (omega (arith, length_chunks rule_bytes_lem count value))
-    (λ piece t. (are_bytes_chunk rule_bytes_lem count value b piece t, chunk_length rule_bytes_lem count value long piece t))
-    (joined_chunks rule_bytes_lem count value long)
+    (omega (arith, length_chunks rule_width count value))
+    (λ piece t. (are_bytes_chunk rule_width count value b piece t, chunk_length rule_width count value long piece t))
+    (joined_chunks rule_width count value long)
 
 policy_good : (size : ℕ) (value : List ℕ) → AreBytes value → Good (IsPolicy size value) (policy_value size value)
 policy_good size value b =
@@ -153,9 +153,9 @@ default_good : (value : Option (List ℕ)) → IfThere AreBytes value → Good (
 unfolding default_value default_field
 default_good none b = refl
 default_good (some value) b =
-    tested (Good (IsDefault (some value))) (eqb (length value) default_bytes_lem) (λ e. tt) λ e.
+    tested (Good (IsDefault (some value))) (eqb (length value) default_width) (λ e. tt) λ e.
     default_tested (Good (IsDefault (some value))) value (λ wrong. tt)
-    (λ is. ap (λ (l : List ℕ). some l) (default_written value b (eqb-true (length value) default_bytes_lem e) is))
+    (λ is. ap (λ (l : List ℕ). some l) (default_written value b (eqb-true (length value) default_width e) is))
 
 keep_good : (i t : List ℕ) (value : Option (List ℕ)) → IfThere AreBytes value → Good (IsKeep i t value) (keep_value i t value)
 unfolding keep_value

@@ -14,8 +14,8 @@ use Rattle.policy.specs.declared.Flow.{Flow}
 use Rattle.deployment.specs.Bytes.{number, number_from, bytes_of, part, chunks, joined}
 use Rattle.deployment.specs.Values.{action_of, action_number}
 use Rattle.deployment.specs.Flows.{
-  flow_bytes_lem,
-  decision_bytes_lem,
+  flow_width,
+  decision_width,
   flow_of,
   flow_bytes,
   flows_of,
@@ -29,22 +29,22 @@ use Rattle.deployment.proofs.Records.{read_at}
 use Rattle.deployment.proofs.Fields.{joined_snoc, map_snoc}
 
 -- Flows.
-pub flows_length : (value : List ℕ) → length (flows_of value) ≡ length value / flow_bytes_lem
+pub flows_length : (value : List ℕ) → length (flows_of value) ≡ length value / flow_width
 unfolding flows_of
 flows_length value =
-    length-map (chunks flow_bytes_lem (length value / flow_bytes_lem) value) flow_of ∙ length_chunks flow_bytes_lem (length value / flow_bytes_lem) value
+    length-map (chunks flow_width (length value / flow_width) value) flow_of ∙ length_chunks flow_width (length value / flow_width) value
 
 -- what is made of the k-th
-pub made_of_flow : {A : Type 0} (f : Flow → A) (value : List ℕ) (k : ℕ) → k < length value / flow_bytes_lem
-    → get_or (map f (flows_of value)) k (f (flow_of [])) ≡ f (flow_of (part (flow_bytes_lem * k) flow_bytes_lem value))
+pub made_of_flow : {A : Type 0} (f : Flow → A) (value : List ℕ) (k : ℕ) → k < length value / flow_width
+    → get_or (map f (flows_of value)) k (f (flow_of [])) ≡ f (flow_of (part (flow_width * k) flow_width value))
 unfolding flows_of
 made_of_flow f value k h =
     get_or-map f (flows_of value) k (flow_of [])
-    ∙ ap f (read_at flow_of flow_bytes_lem (length value / flow_bytes_lem) value k h)
-    ∙ ap (λ (at : ℕ). f (flow_of (part at flow_bytes_lem value))) (mul_comm k flow_bytes_lem)
+    ∙ ap f (read_at flow_of flow_width (length value / flow_width) value k h)
+    ∙ ap (λ (at : ℕ). f (flow_of (part at flow_width value))) (mul_comm k flow_width)
 
 -- Decisions.
-pub length_decision : (d : Decision) → length (decision_bytes d) ≡ decision_bytes_lem
+pub length_decision : (d : Decision) → length (decision_bytes d) ≡ decision_width
 unfolding decision_bytes
 length_decision d =
     omega (
@@ -58,7 +58,7 @@ pub decisions_snoc : (l : List Decision) (d : Decision) → decisions_bytes (l +
 unfolding decisions_bytes
 decisions_snoc l d = ap joined (map_snoc decision_bytes l d) ∙ joined_snoc (map decision_bytes l) (decision_bytes d)
 
-pub length_decisions : (l : List Decision) → length (decisions_bytes l) ≡ decision_bytes_lem * length l
+pub length_decisions : (l : List Decision) → length (decisions_bytes l) ≡ decision_width * length l
 unfolding decisions_bytes joined
 length_decisions [] = refl
 length_decisions (d ∷ l) =
@@ -72,14 +72,14 @@ part_in_front start size u v h =
 
 -- the k-th, whatever stands behind them
 pub decision_at_lem : (l : List Decision) (rest : List ℕ) (k : ℕ) (none : Decision) → k < length l
-    → part (decision_bytes_lem * k) decision_bytes_lem (decisions_bytes l ++ rest) ≡ decision_bytes (get_or l k none)
+    → part (decision_width * k) decision_width (decisions_bytes l ++ rest) ≡ decision_bytes (get_or l k none)
 unfolding part decisions_bytes joined
 decision_at_lem [] rest k none h = absurd (omega arith)
 decision_at_lem (d ∷ l) rest zero none h =
-    rw append_assoc (take_at (decision_bytes d) (decisions_bytes l ++ rest) decision_bytes_lem (length_decision d))
+    rw append_assoc (take_at (decision_bytes d) (decisions_bytes l ++ rest) decision_width (length_decision d))
 decision_at_lem (d ∷ l) rest (suc k) none h =
-    let further : decision_bytes_lem * suc k ≡ decision_bytes_lem + decision_bytes_lem * k = omega arith in
-    rw (further, ← drop-drop, append_assoc, drop_at (decision_bytes d) (decisions_bytes l ++ rest) decision_bytes_lem (length_decision d))
+    let further : decision_width * suc k ≡ decision_width + decision_width * k = omega arith in
+    rw (further, ← drop-drop, append_assoc, drop_at (decision_bytes d) (decisions_bytes l ++ rest) decision_width (length_decision d))
     (decision_at_lem l rest k none (omega arith))
 
 -- Read back.

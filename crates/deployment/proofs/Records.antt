@@ -17,7 +17,7 @@ use Rattle.policy.specs.declared.Flow.{Flow}
 use lib.Dec.{ltb}
 use Rattle.policy.proofs.Tests.{by_test}
 use Rattle.deployment.specs.Bytes.{number_from, number, part, number_at, chunks}
-use Rattle.deployment.specs.Values.{rule_bytes_lem, action_of, rule_of, numbers_of, command_from, coded_of}
+use Rattle.deployment.specs.Values.{rule_width, action_of, rule_of, numbers_of, command_from, coded_of}
 use Rattle.deployment.specs.Commands.{command_count, command_at}
 use Rattle.deployment.specs.Catalogue.{record_count, records_of, catalogue_of}
 use Rattle.deployment.proofs.Bytes.{length_part, length_chunks}
@@ -165,15 +165,15 @@ says_past (rule ∷ catalogue) (suc n) h = says_past catalogue n (omega arith)
 
 -- the bytes of record n
 abbrev pub record_at : ℕ → ℕ → List ℕ → List ℕ
-record_at skip n bytes = part (n * (skip + rule_bytes_lem) + skip) rule_bytes_lem bytes
+record_at skip n bytes = part (n * (skip + rule_width) + skip) rule_width bytes
 
 module _ (skip : ℕ) (bytes : List ℕ) where
   pub catalogue_length : length (catalogue_of skip bytes) ≡ record_count skip bytes
   unfolding catalogue_of records_of
   catalogue_length =
       length-map (records_of skip bytes) rule_of
-      ∙ length-map (chunks (skip + rule_bytes_lem) (record_count skip bytes) bytes) (drop skip)
-      ∙ length_chunks (skip + rule_bytes_lem) (record_count skip bytes) bytes
+      ∙ length-map (chunks (skip + rule_width) (record_count skip bytes) bytes) (drop skip)
+      ∙ length_chunks (skip + rule_width) (record_count skip bytes) bytes
 
   pub rule_at_lem : (n : ℕ) → n < record_count skip bytes
       → get_or (catalogue_of skip bytes) n (rule_of (drop skip [])) ≡ rule_of (record_at skip n bytes)
@@ -181,7 +181,7 @@ module _ (skip : ℕ) (bytes : List ℕ) where
   rule_at_lem n h =
       rw (
         map-map,
-        read_at (λ piece. rule_of (drop skip piece)) (skip + rule_bytes_lem) (record_count skip bytes) bytes n h,
+        read_at (λ piece. rule_of (drop skip piece)) (skip + rule_width) (record_count skip bytes) bytes n h,
         drop_take,
         drop-drop,
       )
@@ -191,28 +191,28 @@ module _ (skip : ℕ) (bytes : List ℕ) where
   unfolding records_of part
   record_there n h =
       ap (get_or (records_of skip bytes) n) (sym (drop-nil skip))
-      ∙ rw (read_at (drop skip) (skip + rule_bytes_lem) (record_count skip bytes) bytes n h, drop_take, drop-drop)
+      ∙ rw (read_at (drop skip) (skip + rule_width) (record_count skip bytes) bytes n h, drop_take, drop-drop)
 
   pub record_past : (n : ℕ) → record_count skip bytes ≤ n → get_or (records_of skip bytes) n [] ≡ []
   unfolding records_of
   record_past n h =
       get_or-eq_default (records_of skip bytes) []
-      (rw (length-map (chunks (skip + rule_bytes_lem) (record_count skip bytes) bytes) (drop skip), length_chunks) h)
+      (rw (length-map (chunks (skip + rule_width) (record_count skip bytes) bytes) (drop skip), length_chunks) h)
 
   -- a record is whole where there is one
-  pub record_whole : (n : ℕ) → n < record_count skip bytes → length (record_at skip n bytes) ≡ rule_bytes_lem
+  pub record_whole : (n : ℕ) → n < record_count skip bytes → length (record_at skip n bytes) ≡ rule_width
   unfolding record_count
   record_whole n h =
-      length_part (n * (skip + rule_bytes_lem) + skip) rule_bytes_lem bytes
-      (omega (arith, piece_fits (skip + rule_bytes_lem) (length bytes) n h))
+      length_part (n * (skip + rule_width) + skip) rule_width bytes
+      (omega (arith, piece_fits (skip + rule_width) (length bytes) n h))
 
-  pub record_inside : (n : ℕ) → length (get_or (records_of skip bytes) n []) ≡ rule_bytes_lem → n < record_count skip bytes
+  pub record_inside : (n : ℕ) → length (get_or (records_of skip bytes) n []) ≡ rule_width → n < record_count skip bytes
   record_inside n whole =
       by_test (ltb n (record_count skip bytes))
       (λ t. ltb-true n (record_count skip bytes) t)
       (λ f. absurd (omega (arith, sym (ap length (record_past n (ltb-false n (record_count skip bytes) f))) ∙ whole)))
 
-  pub record_outside : (n : ℕ) → ¬ (length (get_or (records_of skip bytes) n []) ≡ rule_bytes_lem) → record_count skip bytes ≤ n
+  pub record_outside : (n : ℕ) → ¬ (length (get_or (records_of skip bytes) n []) ≡ rule_width) → record_count skip bytes ≤ n
   record_outside n broken =
       by_test (ltb n (record_count skip bytes))
       (λ t. let h = ltb-true n (record_count skip bytes) t in absurd (broken (ap length (record_there n h) ∙ record_whole n h)))

@@ -28,7 +28,7 @@ use Rattle.policy.specs.declared.Action.TheVariants.{Deny, Permit}
 use Rattle.policy.proofs.Tests.{falsely, never}
 use Rattle.deployment.specs.Checked.{Checked, good, bad, ◌>>=◌, why_number, refusal_numbers}
 use Rattle.deployment.specs.Bytes.{number, chunks}
-use Rattle.deployment.specs.Values.{rule_bytes_lem, default_bytes_lem, rule_of, numbers_of, default_fits, list_fits, script_fits}
+use Rattle.deployment.specs.Values.{rule_width, default_width, rule_of, numbers_of, default_fits, list_fits, script_fits}
 use Rattle.deployment.specs.Catalogue.{record_count, records_of, catalogue_of}
 use Rattle.deployment.specs.Contents.{Contents, rule_read, policy_read, default_read, keep_read, script_read}
 use Rattle.deployment.specs.File.{reading_numbers}
@@ -64,7 +64,7 @@ use Rattle.deployment.specs.Properties.{
   policy_twice,
   DefaultFails,
   default_length,
-  default_value_lem,
+  value_of_default,
   KeepFails,
   keep_length,
   keep_order,
@@ -196,7 +196,7 @@ none_yet : RulesPass []
 none_yet = record { bounds = λ rule h. absurd (Memᴰ.not-nil h); unlike = tt }
 
 module _ (value : List ℕ) where
-  pieces : chunks rule_bytes_lem (length value / rule_bytes_lem) value ≡ records_of 0 value
+  pieces : chunks rule_width (length value / rule_width) value ≡ records_of 0 value
   unfolding records_of record_count
   pieces = sym (none_skipped _)
 
@@ -204,14 +204,14 @@ module _ (value : List ℕ) where
   unfolding catalogue_value catalogue_of
   catalogue_right =
       let P : List Rule → Type 0 = λ c. RulesRight value × (c ≡ catalogue_of 0 value) in
-      let n = length value / rule_bytes_lem in
-      tested (Right P (RulesFail value)) (eqb (length value % rule_bytes_lem) 0)
-      (λ e. rules_length (λ n long. never (eq-eqb (length value % rule_bytes_lem) 0 (omega arith)) e)) λ e.
-      let long : length value ≡ rule_bytes_lem * n = omega (arith, eqb-true (length value % rule_bytes_lem) 0 e) in
-      tested (Right P (RulesFail value)) (leb (length value) (rule_bytes_lem * most_rules))
-      (λ e. rules_many n long (omega (arith, leb-false (length value) (rule_bytes_lem * most_rules) e))) λ e.
+      let n = length value / rule_width in
+      tested (Right P (RulesFail value)) (eqb (length value % rule_width) 0)
+      (λ e. rules_length (λ n long. never (eq-eqb (length value % rule_width) 0 (omega arith)) e)) λ e.
+      let long : length value ≡ rule_width * n = omega (arith, eqb-true (length value % rule_width) 0 e) in
+      tested (Right P (RulesFail value)) (leb (length value) (rule_width * most_rules))
+      (λ e. rules_many n long (omega (arith, leb-false (length value) (rule_width * most_rules) e))) λ e.
       let right : RightRules (length value) =
-      (n, long, omega (arith, leb-true (length value) (rule_bytes_lem * most_rules) e)) in
+      (n, long, omega (arith, leb-true (length value) (rule_width * most_rules) e)) in
       rw pieces (each_map (Passed (records_of 0 value)) P (Turned (records_of 0 value)) (RulesFail value) (rules_read [] (records_of 0 value))
       (λ c passed. ((right, passed.0), passed.1))
       (λ number turned. rules_one right turned.0 turned.1 number turned.2 turned.3)
@@ -220,13 +220,13 @@ module _ (value : List ℕ) where
   catalogue_turns : {number : ℕ} → RulesFail value number → Turns number (catalogue_value value)
   unfolding catalogue_value
   catalogue_turns (rules_length wrong) =
-      rw (falsely {b = eqb (length value % rule_bytes_lem) 0} (λ e. wrong (length value / rule_bytes_lem) (omega (arith, eqb-true (length value % rule_bytes_lem) 0 e)))) refl
+      rw (falsely {b = eqb (length value % rule_width) 0} (λ e. wrong (length value / rule_width) (omega (arith, eqb-true (length value % rule_width) 0 e)))) refl
   catalogue_turns (rules_many n long many) =
-      rw (eq-eqb (length value % rule_bytes_lem) 0 (omega arith), lt-leb (length value) (rule_bytes_lem * most_rules) (omega arith)) refl
+      rw (eq-eqb (length value % rule_width) 0 (omega arith), lt-leb (length value) (rule_width * most_rules) (omega arith)) refl
   catalogue_turns (rules_one right earlier rule number place fails) =
       rw (
-        eq-eqb (length value % rule_bytes_lem) 0 (omega (arith, right.1)),
-        le-leb (length value) (rule_bytes_lem * most_rules) (omega (arith, right.1, right.2)),
+        eq-eqb (length value % rule_width) 0 (omega (arith, right.1)),
+        le-leb (length value) (rule_width * most_rules) (omega (arith, right.1, right.2)),
         pieces,
         place.is,
         rules_pass [] earlier (rule ∷ place.later) place.pass,
@@ -236,8 +236,8 @@ module _ (value : List ℕ) where
   unfolding catalogue_value catalogue_of rules_read
   catalogue_passes right =
       rw (
-        eq-eqb (length value % rule_bytes_lem) 0 (omega (arith, right.0.1)),
-        le-leb (length value) (rule_bytes_lem * most_rules) (omega (arith, right.0.1, right.0.2)),
+        eq-eqb (length value % rule_width) 0 (omega (arith, right.0.1)),
+        le-leb (length value) (rule_width * most_rules) (omega (arith, right.0.1, right.0.2)),
         pieces,
       ) (rw append-nil at (rules_pass [] (records_of 0 value) [] right.1))
 
@@ -282,14 +282,14 @@ unfolding default_value
 default_right none = tt
 default_right (some value) =
     let All : Checked Action → Type 0 = Right (λ d. DefaultRight value) (DefaultTurned (some value)) in
-    let says = says_equal (length value) default_bytes_lem in
-    tested All (eqb (length value) default_bytes_lem) (λ e. (value, refl, default_length (says_not says e))) λ e.
-    default_tested All value (λ wrong. (value, refl, default_value_lem (says.0 e) wrong)) (λ is. (says.0 e, is))
+    let says = says_equal (length value) default_width in
+    tested All (eqb (length value) default_width) (λ e. (value, refl, default_length (says_not says e))) λ e.
+    default_tested All value (λ wrong. (value, refl, value_of_default (says.0 e) wrong)) (λ is. (says.0 e, is))
 
 default_turns : (default : List ℕ) {number : ℕ} → DefaultFails default number → Turns number (default_value (some default))
 unfolding default_value default_read default_fits
-default_turns default (default_length wrong) = rw (not_says (says_equal (length default) default_bytes_lem) wrong) refl
-default_turns default (default_value_lem right wrong) = rw (right, not_says (says_equal (number default) 1) wrong) refl
+default_turns default (default_length wrong) = rw (not_says (says_equal (length default) default_width) wrong) refl
+default_turns default (value_of_default right wrong) = rw (right, not_says (says_equal (number default) 1) wrong) refl
 
 default_passes : (value : Option (List ℕ)) → IfThere DefaultRight value → (action : Action) × (default_value value ≡ good action)
 unfolding default_value default_read default_fits
@@ -453,7 +453,7 @@ script_numbers (script_coding right wrong) = omega arith
 
 default_numbers : {value : List ℕ} {number : ℕ} → DefaultFails value number → (number ≤ 11) ⊎ (number ≡ 50)
 default_numbers (default_length wrong) = inl (omega arith)
-default_numbers (default_value_lem right wrong) = inr refl
+default_numbers (value_of_default right wrong) = inr refl
 
 pub values_numbers : {v : FieldValues} {number : ℕ} → ValuesFail v number → (number ≤ 11) ⊎ (number ≡ 50)
 values_numbers (at_rules fails) = inl (rules_numbers fails)

@@ -15,7 +15,7 @@ use Rattle.policy.specs.Policy.{most_rules, most_listed}
 use Rattle.policy.specs.declared.Action.TheVariants.{Permit}
 use Rattle.deployment.specs.Checked.{Checked, good, bad, ◌>>=◌, why_number}
 use Rattle.deployment.specs.Bytes.{number}
-use Rattle.deployment.specs.Values.{rule_bytes_lem, default_bytes_lem, rule_of, numbers_of, numbers_bytes, default_fits}
+use Rattle.deployment.specs.Values.{rule_width, default_width, rule_of, numbers_of, numbers_bytes, default_fits}
 use Rattle.deployment.specs.Contents.{rule_read, policy_read, default_read, keep_read, script_read}
 use Rattle.deployment.specs.File.{
   Fields,
@@ -194,7 +194,7 @@ field_and_rest left b h =
     )
 
 -- the right length, by the tag
-pub rule_size : {tag size : ℕ} → tag ≡ rule_tag → RightLength tag size → size ≡ rule_bytes_lem
+pub rule_size : {tag size : ℕ} → tag ≡ rule_tag → RightLength tag size → size ≡ rule_width
 rule_size e =
     ⊎_elim (λ h. h.1) (⊎_elim (λ h. absurd (omega (arith, e, h.0))) (⊎_elim (λ h. absurd (omega (arith, e, h.0))) (λ h. absurd (h.0 e))))
 
@@ -202,7 +202,7 @@ pub script_size : {tag size : ℕ} → tag ≡ script_tag → RightLength tag si
 script_size e =
     ⊎_elim (λ h. absurd (omega (arith, e, h.0))) (⊎_elim (λ h. h.1) (⊎_elim (λ h. absurd (omega (arith, e, h.0))) (λ h. absurd (h.1 e))))
 
-pub default_size : {tag size : ℕ} → tag ≡ default_tag → RightLength tag size → size ≡ default_bytes_lem
+pub default_size : {tag size : ℕ} → tag ≡ default_tag → RightLength tag size → size ≡ default_width
 default_size e =
     ⊎_elim (λ h. absurd (omega (arith, e, h.0))) (⊎_elim (λ h. absurd (omega (arith, e, h.0))) (⊎_elim (λ h. h.1) (λ h. absurd (h.2 e))))
 
@@ -238,7 +238,7 @@ module _ (left : List ℕ) (b : AreBytes left) where
       let c = f.catalogue in
       let value = value_of left in
       let stands = whole_stands f rule_tag whole e in
-      let long : length value ≡ rule_bytes_lem = length_part head_bytes (size_of left) left whole.1 ∙ rule_size e whole.0.1 in
+      let long : length value ≡ rule_width = length_part head_bytes (size_of left) left whole.1 ∙ rule_size e whole.0.1 in
       let free : ¬ (most_rules ≤ length c) = λ h. whole.0.0.1 (e, h) in
       let recordable = rule_recordable value value_bytes long in
       rule_tested (λ read. ValueRight f left (◌>>=◌ read (λ rule. good (set_catalogue f (c ++ (rule ∷ [])))))) c value
@@ -287,7 +287,7 @@ module _ (left : List ℕ) (b : AreBytes left) where
   default_right f r whole e =
       let value = value_of left in
       let stands = whole_stands f default_tag whole e in
-      let long : length value ≡ default_bytes_lem = length_part head_bytes (size_of left) left whole.1 ∙ default_size e whole.0.1 in
+      let long : length value ≡ default_width = length_part head_bytes (size_of left) left whole.1 ∙ default_size e whole.0.1 in
       default_tested (λ read. ValueRight f left (◌>>=◌ read (λ default. good (set_default f (some default))))) value
       (wrong_default whole e) λ one. (
         whole,

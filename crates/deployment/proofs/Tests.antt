@@ -30,8 +30,8 @@ use Rattle.deployment.specs.Checked.{Checked, good, bad, ◌>>=◌, ◌>>◌, re
 use Rattle.deployment.specs.Bytes.{number, part}
 use Rattle.deployment.specs.Values.{
   Script,
-  rule_bytes_lem,
-  default_bytes_lem,
+  rule_width,
+  default_width,
   default_fits,
   rule_of,
   rule_fits,
@@ -133,13 +133,13 @@ says_length tag size =
     let rule = says_equal tag rule_tag in
     let script = says_equal tag script_tag in
     let default = says_equal tag default_tag in (
-      λ e. by_test (eqb tag rule_tag) (λ t. inl (rule.0 t, (says_equal size rule_bytes_lem).0 (rw t at e))) λ r.
+      λ e. by_test (eqb tag rule_tag) (λ t. inl (rule.0 t, (says_equal size rule_width).0 (rw t at e))) λ r.
           by_test (eqb tag script_tag) (λ t. inr (inl (script.0 t, (says_script size).0 (rw (r, t) at e)))) λ s.
-          by_test (eqb tag default_tag) (λ t. inr (inr (inl (default.0 t, (says_equal size default_bytes_lem).0 (rw (r, s, t) at e))))) λ d.
+          by_test (eqb tag default_tag) (λ t. inr (inr (inl (default.0 t, (says_equal size default_width).0 (rw (r, s, t) at e))))) λ d.
           inr (inr (inr (says_not rule r, says_not script s, says_not default d, (says_list size).0 (rw (r, s, d) at e)))),
-      ⊎_elim (λ h. rw h.0 ((says_equal size rule_bytes_lem).1 h.1))
+      ⊎_elim (λ h. rw h.0 ((says_equal size rule_width).1 h.1))
           (⊎_elim (λ h. rw h.0 ((says_script size).1 h.1))
-          (⊎_elim (λ h. rw h.0 ((says_equal size default_bytes_lem).1 h.1))
+          (⊎_elim (λ h. rw h.0 ((says_equal size default_width).1 h.1))
           (λ h. rw (not_says rule h.0, not_says script h.1, not_says default h.2) ((says_list size).1 h.3)))),
     )
 

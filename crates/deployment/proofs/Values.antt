@@ -44,7 +44,7 @@ use Rattle.deployment.specs.Values.{
   same_range,
   same_rule,
   known,
-  default_bytes_lem,
+  default_width,
   default_bytes,
   default_of,
   default_field,
@@ -325,19 +325,19 @@ pub not_known : (rule : Rule) (catalogue : List Rule) → ¬ Memᴰ rule catalog
 not_known rule catalogue h = falsely (λ t. h (known_in rule catalogue t))
 
 -- A default is one byte, which is 1 where it is permit.
-pub length_default : (action : Action) → length (default_bytes action) ≡ default_bytes_lem
+pub length_default : (action : Action) → length (default_bytes action) ≡ default_width
 unfolding default_bytes
-length_default action = length_bytes default_bytes_lem (action_number action)
+length_default action = length_bytes default_width (action_number action)
 
 pub default_are_bytes : (action : Action) → AreBytes (default_bytes action)
 unfolding default_bytes
-default_are_bytes action = bytes_are_bytes default_bytes_lem (action_number action)
+default_are_bytes action = bytes_are_bytes default_width (action_number action)
 
 pub default_read_lem : number (default_bytes Permit) ≡ 1
 unfolding default_bytes action_number
-default_read_lem = number_bytes default_bytes_lem 1 (lit< tt)
+default_read_lem = number_bytes default_width 1 (lit< tt)
 
-pub default_written : (value : List ℕ) → AreBytes value → length value ≡ default_bytes_lem → number value ≡ 1 → default_bytes Permit ≡ value
+pub default_written : (value : List ℕ) → AreBytes value → length value ≡ default_width → number value ≡ 1 → default_bytes Permit ≡ value
 unfolding default_bytes action_number
 default_written value h long is = rw (long, is) at (bytes_number value h)
 

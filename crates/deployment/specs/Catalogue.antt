@@ -3,14 +3,14 @@
 use Rattle.std.specs.Prelude.{ℕ, ◌+◌, ◌/◌, List, map, length, drop}
 use Rattle.policy.specs.Rule.{Rule}
 use Rattle.deployment.specs.Bytes.{chunks}
-use Rattle.deployment.specs.Values.{rule_bytes_lem, rule_of}
+use Rattle.deployment.specs.Values.{rule_width, rule_of}
 
 -- how many whole records there are
 unfoldable pub record_count : ℕ → List ℕ → ℕ
-record_count skip bytes = length bytes / (skip + rule_bytes_lem)
+record_count skip bytes = length bytes / (skip + rule_width)
 
 unfoldable pub records_of : ℕ → List ℕ → List (List ℕ)
-records_of skip bytes = map (drop skip) (chunks (skip + rule_bytes_lem) (record_count skip bytes) bytes)
+records_of skip bytes = map (drop skip) (chunks (skip + rule_width) (record_count skip bytes) bytes)
 
 -- the rules of these records, numbered from 0
 unfoldable pub catalogue_of : ℕ → List ℕ → List Rule

@@ -8,7 +8,7 @@ use Rattle.policy.specs.declared.Action.{Action}
 use Rattle.policy.specs.declared.Action.TheVariants.{Deny}
 use Rattle.deployment.specs.Checked.{Checked, good, bad, ◌>>=◌, ◌>>◌, require, refusal_numbers}
 use Rattle.deployment.specs.Bytes.{chunks}
-use Rattle.deployment.specs.Values.{Script, rule_bytes_lem, default_bytes_lem, list_fits, script_fits}
+use Rattle.deployment.specs.Values.{Script, rule_width, default_width, list_fits, script_fits}
 use Rattle.deployment.specs.Contents.{Contents, rule_read, policy_read, default_read, keep_read, script_read}
 use Rattle.deployment.specs.File.{Reading, accepted, refused}
 use Rattle.deployment.specs.declared.Why.{Why}
@@ -36,9 +36,9 @@ rules_read catalogue (value ∷ others) = do
 -- "4 for rules not of 27 bytes each, 7, then 5 and 6"
 unfoldable pub catalogue_value : List ℕ → Checked (List Rule)
 catalogue_value value = do
-  require (eqb (length value % rule_bytes_lem) 0) Length
-  require (leb (length value) (rule_bytes_lem * most_rules)) TooMany
-  rules_read [] (chunks rule_bytes_lem (length value / rule_bytes_lem) value)
+  require (eqb (length value % rule_width) 0) Length
+  require (leb (length value) (rule_width * most_rules)) TooMany
+  rules_read [] (chunks rule_width (length value / rule_width) value)
 
 -- "then 4, 8, 9 for the initial policy and again for the target"
 unfoldable pub policy_value : ℕ → List ℕ → Checked (List ℕ)
@@ -50,7 +50,7 @@ policy_value size value = do
 unfoldable pub default_value : Option (List ℕ) → Checked Action
 default_value none = good Deny
 default_value (some value) = do
-  require (eqb (length value) default_bytes_lem) Length
+  require (eqb (length value) default_width) Length
   default_read value
 
 -- "then 4, 10 for the keep list"

@@ -9,8 +9,8 @@ use Rattle.deployment.specs.Checked.{Checked, good, bad, ◌>>=◌, ◌>>◌, re
 use Rattle.deployment.specs.Bytes.{number, bytes_of, part, joined}
 use Rattle.deployment.specs.Values.{
   Script,
-  rule_bytes_lem,
-  default_bytes_lem,
+  rule_width,
+  default_width,
   rule_bytes,
   numbers_bytes,
   default_bytes,
@@ -161,9 +161,9 @@ last_tag f =
 -- 4, by the tag
 unfoldable pub length_fits : ℕ → ℕ → Bool
 length_fits tag size =
-    cond (eqb tag rule_tag) (eqb size rule_bytes_lem)
+    cond (eqb tag rule_tag) (eqb size rule_width)
     (cond (eqb tag script_tag) (script_fits size)
-    (cond (eqb tag default_tag) (eqb size default_bytes_lem)
+    (cond (eqb tag default_tag) (eqb size default_width)
     (list_fits size)))
 
 -- "a one-byte tag, a two-byte length, the value"

@@ -6,12 +6,12 @@ use Rattle.deployment.specs.Bytes.{number, bytes_of, part, chunks, joined}
 use Rattle.deployment.specs.Values.{action_of, action_number}
 
 -- a flow's five numbers have 1, 4, 2, 4 and 2 bytes
-abbrev pub flow_bytes_lem : ℕ
-flow_bytes_lem = 13
+abbrev pub flow_width : ℕ
+flow_width = 13
 
 -- an action has one byte, a place two
-abbrev pub decision_bytes_lem : ℕ
-decision_bytes_lem = 3
+abbrev pub decision_width : ℕ
+decision_width = 3
 
 -- "A flow is five numbers: protocol (0 to 255), source address (32 bits), source port (16), destination address (32), destination port (16)"
 unfoldable pub flow_of : List ℕ → Flow
@@ -31,7 +31,7 @@ flow_bytes f =
 
 -- flows one after another
 unfoldable pub flows_of : List ℕ → List Flow
-flows_of value = map flow_of (chunks flow_bytes_lem (length value / flow_bytes_lem) value)
+flows_of value = map flow_of (chunks flow_width (length value / flow_width) value)
 
 -- "The answer is the action and the place of that rule": "0 deny, 1 permit"
 unfoldable pub decision_bytes : Decision → List ℕ

@@ -15,8 +15,8 @@ use Rattle.policy.specs.declared.Flow.{Flow}
 use Rattle.deployment.specs.Bytes.{number, part, joined}
 use Rattle.deployment.specs.Values.{
   Script,
-  rule_bytes_lem,
-  default_bytes_lem,
+  rule_width,
+  default_width,
   rule_of,
   rule_bytes,
   range_at,
@@ -190,9 +190,9 @@ RightScript size = (n : ℕ) × (size ≡ 1 + 5 * n) × (n ≤ most_commands)
 
 abbrev pub RightLength : ℕ → ℕ → Type 0
 RightLength tag size =
-    ((tag ≡ rule_tag) × (size ≡ rule_bytes_lem))
+    ((tag ≡ rule_tag) × (size ≡ rule_width))
     ⊎ (((tag ≡ script_tag) × RightScript size)
-    ⊎ (((tag ≡ default_tag) × (size ≡ default_bytes_lem))
+    ⊎ (((tag ≡ default_tag) × (size ≡ default_width))
     ⊎ (¬ (tag ≡ rule_tag) × ¬ (tag ≡ script_tag) × ¬ (tag ≡ default_tag) × RightList size)))
 
 -- 5: "action above 1, or a low above its high"
@@ -276,7 +276,7 @@ pub record TurnedAway (file : List ℕ) (number at : ℕ) : Type 0 where
 
 -- Field values, in document 01's order. 4 and 7: "rules not of 27 bytes each", "a 1,025th rule"
 abbrev pub RightRules : ℕ → Type 0
-RightRules size = (n : ℕ) × (size ≡ rule_bytes_lem * n) × (n ≤ most_rules)
+RightRules size = (n : ℕ) × (size ≡ rule_width * n) × (n ≤ most_rules)
 
 -- rules that pass, as bytes: none has wrong bounds, none equals an earlier one
 pub record RulesPass (rules : List (List ℕ)) : Type 0 where
@@ -296,8 +296,8 @@ pub record RulePlace (rules earlier : List (List ℕ)) (rule : List ℕ) : Type 
 
 -- "4 for rules not of 27 bytes each, 7, then 5 and 6 rule by rule"
 pub data RulesFail (value : List ℕ) : ℕ → Type 0 where
-  rules_length : ((n : ℕ) → ¬ (length value ≡ rule_bytes_lem * n)) → RulesFail value 4
-  rules_many : (n : ℕ) → length value ≡ rule_bytes_lem * n → most_rules < n → RulesFail value 7
+  rules_length : ((n : ℕ) → ¬ (length value ≡ rule_width * n)) → RulesFail value 4
+  rules_many : (n : ℕ) → length value ≡ rule_width * n → most_rules < n → RulesFail value 7
   rules_one : RightRules (length value) → (earlier : List (List ℕ)) (rule : List ℕ) (number : ℕ)
       → RulePlace (records_of 0 value) earlier rule → RuleFails earlier rule number → RulesFail value number
 
@@ -310,8 +310,8 @@ pub data PolicyFails (size : ℕ) (value : List ℕ) : ℕ → Type 0 where
 
 -- 02, L1: "4 for another length, then 50"
 pub data DefaultFails (value : List ℕ) : ℕ → Type 0 where
-  default_length : ¬ (length value ≡ default_bytes_lem) → DefaultFails value 4
-  default_value_lem : length value ≡ default_bytes_lem → WrongDefault value → DefaultFails value 50
+  default_length : ¬ (length value ≡ default_width) → DefaultFails value 4
+  value_of_default : length value ≡ default_width → WrongDefault value → DefaultFails value 50
 
 -- "4, 10 for the keep list"
 pub data KeepFails (initial target value : List ℕ) : ℕ → Type 0 where
@@ -331,7 +331,7 @@ abbrev pub PolicyRight : ℕ → List ℕ → Type 0
 PolicyRight size value = RightList (length value) × Admitted size (numbers_of value)
 
 abbrev pub DefaultRight : List ℕ → Type 0
-DefaultRight value = (length value ≡ default_bytes_lem) × (number value ≡ 1)
+DefaultRight value = (length value ≡ default_width) × (number value ≡ 1)
 
 abbrev pub KeepRight : List ℕ → List ℕ → List ℕ → Type 0
 KeepRight initial target value = RightList (length value) × InOrder initial target (numbers_of value)

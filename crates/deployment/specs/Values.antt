@@ -13,8 +13,8 @@ use Rattle.policy.specs.declared.Command.TheVariants.{App, DelRule, Ins, DelPlac
 use Rattle.deployment.specs.Bytes.{number, bytes_of, part, chunks, joined}
 
 -- "a rule, 27 bytes"
-abbrev pub rule_bytes_lem : ℕ
-rule_bytes_lem = 27
+abbrev pub rule_width : ℕ
+rule_width = 27
 
 -- "action (0 deny, 1 permit)"
 unfoldable pub action_of : ℕ → Action
@@ -83,8 +83,8 @@ known rule [] = false
 known rule (earlier ∷ catalogue) = same_rule earlier rule || known rule catalogue
 
 -- 02, L1: a default, "length 1"
-abbrev pub default_bytes_lem : ℕ
-default_bytes_lem = 1
+abbrev pub default_width : ℕ
+default_width = 1
 
 -- 50: "a value other than 1"
 unfoldable pub default_fits : List ℕ → Bool
@@ -92,7 +92,7 @@ default_fits value = eqb (number value) 1
 
 -- "value 1 means permit"
 unfoldable pub default_bytes : Action → List ℕ
-default_bytes action = bytes_of default_bytes_lem (action_number action)
+default_bytes action = bytes_of default_width (action_number action)
 
 -- "absence means deny": the default that a field, there or not, gives, and the field of a default
 unfoldable pub default_of : Option Action → Action

@@ -15,7 +15,7 @@ use Rattle.policy.specs.declared.Decision.{Decision}
 use Rattle.policy.specs.declared.Flow.{Flow}
 use Rattle.deployment.specs.Checked.{Checked, good, bad, ◌>>=◌}
 use Rattle.deployment.specs.Bytes.{part, chunks}
-use Rattle.deployment.specs.Values.{rule_bytes_lem, rule_of, numbers_of}
+use Rattle.deployment.specs.Values.{rule_width, rule_of, numbers_of}
 use Rattle.deployment.specs.Catalogue.{record_count, records_of, catalogue_of}
 use Rattle.deployment.specs.Contents.{initial_policy, target_policy, rule_read}
 use Rattle.deployment.specs.File.{read_file}
@@ -106,9 +106,9 @@ catalogue_is : (value : List ℕ) → Passing (λ c. c ≡ catalogue_of 0 value)
 unfolding catalogue_value catalogue_of records_of record_count
 catalogue_is value =
     let P = Passing (λ c. c ≡ catalogue_of 0 value) in
-    let pieces = chunks rule_bytes_lem (length value / rule_bytes_lem) value in
-    tested P (eqb (length value % rule_bytes_lem) 0) (λ uneven. tt) λ whole.
-    tested P (leb (length value) (rule_bytes_lem * most_rules)) (λ many. tt) λ few.
+    let pieces = chunks rule_width (length value / rule_width) value in
+    tested P (eqb (length value % rule_width) 0) (λ uneven. tt) λ whole.
+    tested P (leb (length value) (rule_width * most_rules)) (λ many. tt) λ few.
     rules_are [] pieces (catalogue_of 0 value) (none_skipped pieces)
 
 good_bad {ℓ} : {A : Type ℓ} {why : Why} → Good ≡ Bad why → A
@@ -126,7 +126,7 @@ module _ (rules value : List ℕ) (has : Bool) (default : List ℕ) where
   module _ (right : Rules rules) where
     -- what `policy_checked` answers
     abbrev Listed : Checking → Type 0
-    Listed answer = answer ≡ checking (policy_value (min (length rules / rule_bytes_lem) 1024) value)
+    Listed answer = answer ≡ checking (policy_value (min (length rules / rule_width) 1024) value)
 
     over : (answer : Checking) → Listed answer → answer ≡ checking (policy_value (length right.catalogue) value)
     over answer e = rw right.counted (rw right.few at e)

@@ -11,7 +11,7 @@ use lib.ListN.{length}
 use Rattle.policy.specs.Policy.{most_rules}
 use Rattle.policy.specs.Replay.{replay}
 use Rattle.deployment.specs.Checked.{good}
-use Rattle.deployment.specs.Values.{Script, rule_bytes_lem, numbers_bytes, script_bytes}
+use Rattle.deployment.specs.Values.{Script, rule_width, numbers_bytes, script_bytes}
 use Rattle.deployment.specs.Catalogue.{record_count}
 use Rattle.deployment.specs.Contents.{Contents}
 use Rattle.deployment.specs.File.{read_to_judge}
@@ -79,7 +79,7 @@ module _ (rules initial : List ℕ) (has : Bool) (default script place : List �
   turned_before why e = rw (failed (policy_tested rules initial (given has default)) why e)
 
   pub replayed_values_lem : Good ≡ checking (policy_tested rules initial (given has default))
-      → replayed_at_zero (replayed_over (min (length rules / rule_bytes_lem) 1024) initial script) place
+      → replayed_at_zero (replayed_over (min (length rules / rule_width) 1024) initial script) place
       ≡ replayed_at_zero (replayed_values rules initial (given has default) script) place
   unfolding replayed_values record_count
   replayed_values_lem e =

@@ -48,16 +48,16 @@ decided_reading of-target flow reading = answered (λ c. decided.Is (decided_con
 -- rules and a policy over them, which is a list together with its default: "4 for rules not of 27 bytes each, 7, then 5 and 6 rule by rule, then
 -- 4, 8, 9", 4, 50 (02, L1)
 unfoldable pub policy_tested : List ℕ → List ℕ → Option (List ℕ) → Checked (List Rule × Policy)
-policy_tested rules value default_value_lem = do
+policy_tested rules value value_of_default = do
   catalogue ← catalogue_value rules
   list ← policy_value (length catalogue) value
-  default ← default_value default-value
+  default ← default_value value_of_default
   good (catalogue, under default list)
 
 -- what decides flows
 unfoldable pub deciding_values : List ℕ → List ℕ → Option (List ℕ) → Checked (Flow → Decision)
-deciding_values rules value default_value_lem = do
-  passed ← policy_tested rules value default-value
+deciding_values rules value value_of_default = do
+  passed ← policy_tested rules value value_of_default
   good (λ flow. decide (matching passed.0 flow) passed.1)
 
 unfoldable pub decided_values : List ℕ → List ℕ → Option (List ℕ) → Flow → Checked Decision

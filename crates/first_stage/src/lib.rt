@@ -12,7 +12,7 @@ ghost use Rattle.policy.specs.Policy.{most_rules, most_listed};
 ghost use Rattle.running.specs.Running.{view};
 ghost use Rattle.places.specs.Places.{renumbered};
 ghost use Rattle.deployment.specs.Values.{coded_bytes};
-ghost use Rattle.plans.specs.Sending.{most_planned, field_bytes_lem};
+ghost use Rattle.plans.specs.Sending.{most_planned, field_width};
 ghost use Rattle.first_stage.specs.Looking.{until};
 ghost use Rattle.first_stage.specs.FirstStage.{Took, FirstStage};
 
@@ -86,7 +86,7 @@ impl Stage {
 // One rule of the target: whether it is in the initial policy, and whether it is kept.
 fn take_one(stage: Stage, r: u16, old: bool, keep: bool, field: &mut [u8]) -> Stage
     requires { (stage.front ≤ length (view stage.list)) × (length (view stage.list) < most_rules) × (r < most_rules) × (stage.sent < most_planned)
-        × (length field.old ≡ field_bytes_lem) }
+        × (length field.old ≡ field_width) }
     ensures { Took stage r old keep field.old result field.new }
 {
     let front = stage.front;
@@ -122,7 +122,7 @@ fn take_one(stage: Stage, r: u16, old: bool, keep: bool, field: &mut [u8]) -> St
 // "First stage. The front of the running list starts empty. Take the target's rules in order."
 pub fn stage_one(initial: Running, target: Running, kept: Running, field: &mut [u8]) -> Stage
     requires { Accepted most_rules (view initial) (view target) (some (view kept)) × (length (view initial) ≤ most_listed) × (length (view target) ≤ most_listed)
-        × (length field.old ≡ field_bytes_lem) }
+        × (length field.old ≡ field_width) }
     ensures { FirstStage (view initial) (view target) (view kept) field.old result field.new }
 {
     let of = places_of(initial);

@@ -5,7 +5,7 @@ use Rattle.policy.specs.declared.Decision.{Decision}
 use Rattle.policy.specs.declared.Flow.{Flow}
 use Rattle.deployment.specs.Checked.{why_number}
 use Rattle.deployment.specs.Bytes.{part}
-use Rattle.deployment.specs.Flows.{flow_bytes_lem, decision_bytes_lem, flow_of, decision_of}
+use Rattle.deployment.specs.Flows.{flow_width, decision_width, flow_of, decision_of}
 use Rattle.deployment.specs.FieldValues.{Writing}
 use Rattle.deployment.specs.declared.Refusal.{Refusal}
 use Rattle.deployment.specs.declared.Written.{Written}
@@ -14,14 +14,14 @@ use Rattle.flows.specs.Flows.{flows_decided}
 
 -- how many flows there are, and the k-th of them
 abbrev pub flow_count : List ℕ → ℕ
-flow_count flows = length flows / flow_bytes_lem
+flow_count flows = length flows / flow_width
 
 abbrev pub flow_at : ℕ → List ℕ → Flow
-flow_at k flows = flow_of (part (flow_bytes_lem * k) flow_bytes_lem flows)
+flow_at k flows = flow_of (part (flow_width * k) flow_width flows)
 
 -- the decision in the k-th three bytes of a place
 abbrev pub decision_at : ℕ → List ℕ → Decision
-decision_at k place = decision_of (part (decision_bytes_lem * k) decision_bytes_lem place)
+decision_at k place = decision_of (part (decision_width * k) decision_width place)
 
 -- turned away with this number of the table, at this position
 abbrev pub TurnedWith : Written → ℕ → ℕ → Type 0
@@ -31,21 +31,21 @@ TurnedWith answer number at = (refusal : Refusal) × (answer ≡ Turned refusal)
 abbrev pub FlowsNotWhole : Type 0
 FlowsNotWhole =
     (decides : Flow → Decision) (flows place : List ℕ) (at : ℕ)
-    → TurnedWith (flows_decided decides flows place).answer 4 at ↔ ((¬ (length flows % flow_bytes_lem ≡ 0)) × (at ≡ 0))
+    → TurnedWith (flows_decided decides flows place).answer 4 at ↔ ((¬ (length flows % flow_width ≡ 0)) × (at ≡ 0))
 
 -- 13 exactly where the place is smaller than three bytes a flow, at the bytes needed,
 abbrev pub FlowsWithoutRoom : Type 0
 FlowsWithoutRoom =
     (decides : Flow → Decision) (flows place : List ℕ) (at : ℕ)
     → TurnedWith (flows_decided decides flows place).answer 13 at
-    ↔ ((length flows % flow_bytes_lem ≡ 0) × (length place < decision_bytes_lem * flow_count flows) × (at ≡ decision_bytes_lem * flow_count flows))
+    ↔ ((length flows % flow_width ≡ 0) × (length place < decision_width * flow_count flows) × (at ≡ decision_width * flow_count flows))
 
 -- and otherwise three bytes a flow are written.
 abbrev pub FlowsWritten : Type 0
 FlowsWritten =
     (decides : Flow → Decision) (flows place : List ℕ) (n : ℕ)
     → ((flows_decided decides flows place).answer ≡ Bytes n)
-    ↔ ((length flows % flow_bytes_lem ≡ 0) × (decision_bytes_lem * flow_count flows ≤ length place) × (n ≡ decision_bytes_lem * flow_count flows))
+    ↔ ((length flows % flow_width ≡ 0) × (decision_width * flow_count flows ≤ length place) × (n ≡ decision_width * flow_count flows))
 
 -- "on success the output fills the first bytes and the rest keep theirs"; "When turned away, every lent place keeps its bytes"
 abbrev pub KeepsRest : List ℕ → Writing → Type 0

@@ -9,7 +9,7 @@ ghost use Rattle.policy.specs.Claims.{Admitted, Accepted};
 ghost use Rattle.policy.specs.Policy.{most_rules, most_listed};
 ghost use Rattle.running.specs.Running.{view};
 ghost use Rattle.deployment.specs.Values.{numbers_of};
-ghost use Rattle.plans.specs.Sending.{field_bytes_lem};
+ghost use Rattle.plans.specs.Sending.{field_width};
 ghost use Rattle.plans.specs.Plans.{made_two_of, keep_of, Placed, placed_plan};
 ghost use Rattle.deployment.specs.FieldValues.{left_by};
 
@@ -51,7 +51,7 @@ fn own_choice(initial: Running, target: Running) -> Running
 // The plan for two policies and, where it isn't absent, a keep list, in a place for the longest field.
 fn made_two(initial: &[u8], target: &[u8], has_keep: bool, keep: &[u8], field: &mut [u8]) -> Plan
     requires { Accepted most_rules (numbers_of initial.now) (numbers_of target.now) (keep_of has_keep keep.now)
-        × (length (numbers_of initial.now) ≤ most_listed) × (length (numbers_of target.now) ≤ most_listed) × (length field.old ≡ field_bytes_lem) }
+        × (length (numbers_of initial.now) ≤ most_listed) × (length (numbers_of target.now) ≤ most_listed) × (length field.old ≡ field_width) }
     ensures { Placed (made_two_of (numbers_of initial.now) (numbers_of target.now) (keep_of has_keep keep.now))
         result field.old field.new }
 {

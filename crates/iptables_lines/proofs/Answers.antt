@@ -3,7 +3,7 @@ use mathlib.Core.Bool.{Bool}
 use mathlib.Core.Path.{◌≡◌, sym, ◌∙◌}
 use Rattle.iptables_lines.specs.declared.LineRead.{LineRead}
 use Rattle.iptables_lines.proofs.is_filter.Reads as is-filter
-use Rattle.iptables_lines.proofs.line_read_lem.Reads as Line-read
+use Rattle.iptables_lines.proofs.line_read.Reads as Line-read
 
 pub one_filter : (κ : _) (a : _) (r s : Bool) (e f : _) → is-filter.Post κ a r e → is-filter.Post κ a s f → r ≡ s
 one_filter κ a r s e f p q = p ∙ sym q

@@ -33,12 +33,12 @@ rule_line Good bytes = record { line = line.Rule; bytes = bytes }
 rule_line (Bad why) bytes = plain_told (line.Turned why)
 
 rule_told_lem : (read : Checked Rule)
-    → let told = found.ruleReadTold read in rule_line told.checking told.bytes ≡ read_told (◌>>=◌ read (λ r. good (listing.rule r)))
-unfolding rule_line found.ruleReadTold checking rule_or plain_told read_told line_told line_is rule_told rule_of
+    → let told = found.rule_read_told read in rule_line told.checking told.bytes ≡ read_told (◌>>=◌ read (λ r. good (listing.rule r)))
+unfolding rule_line found.rule_read_told checking rule_or plain_told read_told line_told line_is rule_told rule_of
 rule_told_lem (good r) = refl
 rule_told_lem (bad why) = refl
 
-pub rule_line_told : (words : List (List ℕ)) (read : RuleRead) → read ≡ found.ruleReadTold (rule_read words)
+pub rule_line_told : (words : List (List ℕ)) (read : RuleRead) → read ≡ found.rule_read_told (rule_read words)
     → (checked : Checking) → read.checking ≡ checked → rule_line checked read.bytes ≡ read_told (append_read (text "FORWARD" ∷ words))
 unfolding append_read same text
 rule_line_told words read told checked is = rw (← is, told) (rule_told_lem (rule_read words))

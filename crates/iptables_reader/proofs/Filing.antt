@@ -28,9 +28,9 @@ use Rattle.iptables_reader.specs.Kept.{rule_at, rules_fields, action_if}
 abbrev head_of : ℕ → ℕ → List ℕ
 head_of tag size = tag ∷ size / 256 ∷ size % 256 ∷ []
 
-field_bytes_lem : (tag : ℕ) (value : List ℕ) → tag < 256 → length value < 65536 → field_bytes tag value ≡ head_of tag (length value) ++ value
+field_width : (tag : ℕ) (value : List ℕ) → tag < 256 → length value < 65536 → field_bytes tag value ≡ head_of tag (length value) ++ value
 unfolding field_bytes bytes_of
-field_bytes_lem tag value small few =
+field_width tag value small few =
     let tagged : tag % 256 ≡ tag = omega arith in
     let high : length value / 256 % 256 ≡ length value / 256 = omega arith in
     rw (tagged, high)
@@ -38,7 +38,7 @@ field_bytes_lem tag value small few =
 field_put : (place : List ℕ) (at tag : ℕ) (value : List ℕ) → tag < 256 → length value < 65536
     → sets (sets place at (head_of tag (length value))) (at + 3) value ≡ sets place at (field_bytes tag value)
 field_put place at tag value small few =
-    sets_sets place at (head_of tag (length value)) value ∙ ap (sets place at) (sym (field_bytes_lem tag value small few))
+    sets_sets place at (head_of tag (length value)) value ∙ ap (sets place at) (sym (field_width tag value small few))
 
 -- The numbers of a policy.
 numbers_from_snoc : (first count : ℕ) → numbers_from first (suc count) ≡ numbers_from first count ++ ((first + count) ∷ [])

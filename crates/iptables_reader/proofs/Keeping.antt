@@ -38,7 +38,7 @@ use Rattle.iptables_reader.specs.Kept.{line_at, rule_at, records_at, marks_at, k
 
 -- Where the listing has ended there is an empty line, which has no rule.
 pub no_rule_there : (listing : List ℕ) (start : ℕ) → length listing ≤ start → rule_at listing start ≡ no_rule
-unfolding rule_at line_at cut_at told.ruleTold told.ruleOf
+unfolding rule_at line_at cut_at told.rule_told told.rule_of
 no_rule_there listing start h = rw (drop_of_length-le listing {i = start} h, (line_is_lem [] passed).1 (empty_line refl))
 
 -- Records are equal where their rules are, so a record is known where its rule is.

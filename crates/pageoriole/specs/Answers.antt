@@ -27,11 +27,11 @@ plan_outcome l = record { told = planned_told l.answer; place = l.place }
 
 -- "A flow is five numbers."
 abbrev pub flow_of : ℕ → ℕ → ℕ → ℕ → ℕ → Flow
-flow_of protocol source source-port destination destination_port =
+flow_of protocol source source_port destination destination_port =
     record {
       protocol = protocol;
       source = source;
-      source_port = source-port;
+      source_port = source_port;
       destination = destination;
-      destination_port = destination-port;
+      destination_port = destination_port;
     }

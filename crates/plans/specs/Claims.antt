@@ -20,7 +20,7 @@ use Rattle.deployment.specs.File.{script_tag, head_bytes}
 use Rattle.deployment.specs.Properties.{Valid}
 use Rattle.deployment.specs.Checked.{refusal_numbers}
 use Rattle.deployment.specs.declared.Refusal.{Refusal}
-use Rattle.plans.specs.Sending.{field_bytes_lem}
+use Rattle.plans.specs.Sending.{field_width}
 use Rattle.plans.specs.Plans.{script_field, made_one, made_two, planned_numbers, placed_plan}
 use Rattle.plans.specs.declared.Plan.{Plan}
 use Rattle.plans.specs.declared.Planned.{Planned}
@@ -79,7 +79,7 @@ PlannedNumbersSay = (answer : Planned) (refusal : Refusal) → (planned_numbers 
 
 -- A place of 5,124 bytes has room for every plan of either type.
 abbrev pub enough_bytes : ℕ
-enough_bytes = field_bytes_lem
+enough_bytes = field_width
 
 abbrev pub RoomForEvery : Type 0
 RoomForEvery =

@@ -19,11 +19,11 @@ records commands = joined (map (λ c. coded_bytes (coded c)) commands)
 abbrev pub most_planned : ℕ
 most_planned = 1024
 
-abbrev pub field_bytes_lem : ℕ
-field_bytes_lem = 5124
+abbrev pub field_width : ℕ
+field_width = 5124
 
 -- a place for the longest field once these commands have been put, the first of them as number n; all other bytes are the old ones
 pub record Sent (old : List ℕ) (n : ℕ) (commands : List Command) (field : List ℕ) : Type 0 where
-  pub long : length field ≡ field_bytes_lem
+  pub long : length field ≡ field_width
   pub few : n + length commands ≤ most_planned
   pub put : field ≡ sets old (4 + 5 * n) (records commands)

@@ -12,7 +12,7 @@ use borrow.Author.Tests.{eq-eqb}
 use Rattle.policy.specs.Policy.{most_rules}
 use Rattle.deployment.specs.Checked.{good}
 use Rattle.deployment.specs.Bytes.{chunks, joined}
-use Rattle.deployment.specs.Values.{rule_bytes_lem, default_bytes_lem, numbers_of, numbers_bytes, list_fits}
+use Rattle.deployment.specs.Values.{rule_width, default_width, numbers_of, numbers_bytes, list_fits}
 use Rattle.deployment.specs.Catalogue.{catalogue_of}
 use Rattle.deployment.specs.Contents.{rule_read, policy_read, default_read, keep_read, script_read}
 use Rattle.deployment.specs.FieldValues.{policy_value, default_value, keep_value, script_value}
@@ -126,7 +126,7 @@ module _
       ≡ checking (with_field f (record { tag = tag; value = value }))
   unfolding rule_value with_field with_rule
   checked_rule e =
-      rw (with_tag_lem f value e, same_catalogue, eq-eqb (length value) rule_bytes_lem (rule_size e right))
+      rw (with_tag_lem f value e, same_catalogue, eq-eqb (length value) rule_width (rule_size e right))
       (checking_last (rule_read f.catalogue value) _)
 
   list_fits_lem : ¬ (tag ≡ rule_tag) → ¬ (tag ≡ script_tag) → ¬ (tag ≡ default_tag) → list_fits (length value) ≡ true
@@ -155,7 +155,7 @@ module _
   pub checked_default : tag ≡ default_tag → checking (default_value (some value)) ≡ checking (with_field f (record { tag = tag; value = value }))
   unfolding default_value with_field with_default
   checked_default e =
-      rw (with_tag_lem f value e, eq-eqb (length value) default_bytes_lem (default_size e right)) (checking_last (default_read value) _)
+      rw (with_tag_lem f value e, eq-eqb (length value) default_width (default_size e right)) (checking_last (default_read value) _)
 
   same_initial : numbers_of (value_at progress.layout.initial file) ≡ listed f.initial
   unfolding progress_of

@@ -4,7 +4,7 @@ use Rattle.std.proofs.Math.Option.{Option, none, some}
 use Rattle.deployment.specs.Checked.{refusal_numbers}
 use Rattle.deployment.specs.Bytes.{part}
 use Rattle.policy.specs.declared.Action.{Action}
-use Rattle.deployment.specs.Values.{Script, rule_bytes_lem, numbers_bytes, default_bytes, default_field, script_bytes}
+use Rattle.deployment.specs.Values.{Script, rule_width, numbers_bytes, default_bytes, default_field, script_bytes}
 use Rattle.deployment.specs.Contents.{Contents}
 use Rattle.deployment.specs.FieldValues.{FieldValues}
 use Rattle.deployment.specs.File.{Reading, accepted, refused, read_file, head_bytes}
@@ -49,7 +49,7 @@ command_bytes (some script) = some (script_bytes script)
 -- Where the values stand: the rules from the start on, thirty bytes a field, then one field after another.
 unfoldable pub layout_of : Contents → Layout
 layout_of c =
-    let rules_end = length c.catalogue * (head_bytes + rule_bytes_lem) in
+    let rules_end = length c.catalogue * (head_bytes + rule_width) in
     let initial_end = end_of rules_end (some (numbers_bytes c.initial)) in
     let target_end = end_of initial_end (some (numbers_bytes c.target)) in
     let default_end = end_of target_end (action_bytes (default_field c.default)) in
@@ -68,7 +68,7 @@ layout_of c =
 
 -- the value of the k-th rule's field, rules counted from 0
 unfoldable pub rule_span : ℕ → Span
-rule_span k = record { start = (head_bytes + rule_bytes_lem) * k + head_bytes; size = rule_bytes_lem }
+rule_span k = record { start = (head_bytes + rule_width) * k + head_bytes; size = rule_width }
 
 -- what a caller gathers of a file to write it again: the values of the first rules put one after another, and the parts at the other places
 unfoldable pub rules_gathered : ℕ → List ℕ → List ℕ

@@ -7,8 +7,8 @@ use Rattle.policy.specs.Rule.{Rule}
 use Rattle.deployment.specs.Checked.{refusal_numbers}
 use Rattle.deployment.specs.Values.{
   Script,
-  rule_bytes_lem,
-  default_bytes_lem,
+  rule_width,
+  default_width,
   rule_bytes,
   numbers_of,
   numbers_bytes,
@@ -42,7 +42,7 @@ pub record ListStands (file : List ℕ) (span : Span) (l : List ℕ) : Type 0 wh
 -- the part at a place is a default
 pub record DefaultStands (file : List ℕ) (span : Span) (action : Action) : Type 0 where
   pub bytes : value_at span file ≡ default_bytes action
-  pub size : span.size ≡ default_bytes_lem
+  pub size : span.size ≡ default_width
 
 -- the part at a place is a script
 pub record ScriptStands (file : List ℕ) (span : Span) (s : Script) : Type 0 where
@@ -56,7 +56,7 @@ pub record Stands (file : List ℕ) (layout : Layout) (c : Contents) : Type 0 wh
   pub written : file_of c ≡ file
   pub placed : layout_of c ≡ layout
   pub count : layout.rules ≡ length c.catalogue
-  pub catalogue : catalogue_of head_bytes (take ((head_bytes + rule_bytes_lem) * layout.rules) file) ≡ c.catalogue
+  pub catalogue : catalogue_of head_bytes (take ((head_bytes + rule_width) * layout.rules) file) ≡ c.catalogue
   pub rule : (before : List Rule) (rule : Rule) (behind : List Rule) → c.catalogue ≡ before ++ (rule ∷ behind)
       → value_at (rule_span (length before)) file ≡ rule_bytes rule
   pub among : take layout.rules (catalogue_of head_bytes file) ≡ c.catalogue

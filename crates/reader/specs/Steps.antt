@@ -5,7 +5,7 @@ use Rattle.std.proofs.Math.Option.{some}
 use Rattle.policy.specs.Rule.{Rule}
 use Rattle.deployment.specs.Checked.{Checked, good, bad, ◌>>=◌}
 use Rattle.policy.specs.declared.Action.{Action}
-use Rattle.deployment.specs.Values.{Script, rule_bytes_lem, rule_bytes, numbers_bytes, default_bytes, script_bytes}
+use Rattle.deployment.specs.Values.{Script, rule_width, rule_bytes, numbers_bytes, default_bytes, script_bytes}
 use Rattle.deployment.specs.File.{
   Fields,
   set_catalogue,
@@ -39,7 +39,7 @@ use Rattle.reader.specs.declared.file.Step.TheVariants as step
 -- where the values of the fields read so far stand
 unfoldable pub layout_so_far : Fields → Layout
 layout_so_far f =
-    let rules_end = length f.catalogue * (head_bytes + rule_bytes_lem) in
+    let rules_end = length f.catalogue * (head_bytes + rule_width) in
     let initial_end = end_of rules_end (keep_bytes f.initial) in
     let target_end = end_of initial_end (keep_bytes f.target) in
     let default_end = end_of target_end (action_bytes f.default) in

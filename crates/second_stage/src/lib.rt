@@ -9,7 +9,7 @@ ghost use Rattle.policy.specs.Claims.{Admitted};
 ghost use Rattle.policy.specs.Policy.{most_rules};
 ghost use Rattle.policy.specs.Properties.{In};
 ghost use Rattle.running.specs.Running.{view};
-ghost use Rattle.plans.specs.Sending.{Sent, most_planned, field_bytes_lem};
+ghost use Rattle.plans.specs.Sending.{Sent, most_planned, field_width};
 ghost use Rattle.first_stage.specs.Looking.{until};
 ghost use Rattle.first_stage.specs.FirstStage.{front_of};
 ghost use Rattle.second_stage.specs.SecondStage.{Lowered};
@@ -40,7 +40,7 @@ fn first_above(list: Running, from: usize, to: &[u16], place: usize) -> usize
 // One waiting rule, r at place i, with settled rules alone behind it: "One that is not in the target is deleted. Any other is moved to stand just
 // before the first settled rule that follows it in the target, or to the end if there is none."
 fn settle(list: Running, i: usize, r: u16, to: &[u16], sent: u16, field: &mut [u8]) -> Running
-    requires { (0 < i) × (i ≤ length (view list)) × (r < most_rules) × (sent < most_planned) × (length field.old ≡ field_bytes_lem) }
+    requires { (0 < i) × (i ≤ length (view list)) × (r < most_rules) × (sent < most_planned) × (length field.old ≡ field_width) }
     ensures { Lowered to.now list i r sent field.old result field.new }
 {
     let place = place_of(to, r);
@@ -58,7 +58,7 @@ fn settle(list: Running, i: usize, r: u16, to: &[u16], sent: u16, field: &mut [u
 // "Second stage. Take the waiting rules from last place to first." Answers how many commands are sent then.
 pub fn stage_two(stage: Stage, target: Running, field: &mut [u8]) -> u16
     requires { Admitted most_rules (view target) × ((r : ℕ) → In r (view stage.list) → r < most_rules)
-        × (stage.sent + length (second_stage (view target) (front_of stage)) ≤ most_planned) × (length field.old ≡ field_bytes_lem) }
+        × (stage.sent + length (second_stage (view target) (front_of stage)) ≤ most_planned) × (length field.old ≡ field_width) }
     ensures { (result ≡ stage.sent + length (second_stage (view target) (front_of stage)))
         × Sent field.old stage.sent (second_stage (view target) (front_of stage)) field.new }
 {

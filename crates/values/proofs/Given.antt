@@ -16,7 +16,7 @@ use Rattle.policy.specs.declared.Action.{Action}
 use Rattle.policy.specs.declared.Action.TheVariants.{Deny, Permit}
 use Rattle.deployment.specs.Checked.{Checked, good, bad, ◌>>=◌}
 use Rattle.deployment.specs.Bytes.{chunks}
-use Rattle.deployment.specs.Values.{rule_bytes_lem, default_bytes_lem, numbers_of, list_fits}
+use Rattle.deployment.specs.Values.{rule_width, default_width, numbers_of, list_fits}
 use Rattle.deployment.specs.Contents.{rule_read}
 use Rattle.deployment.specs.FieldValues.{
   FieldValues,
@@ -54,8 +54,8 @@ failed (bad other) why e = let same : other ≡ why = cc in rw same
 pub record Rules (value : List ℕ) : Type 0 where
   pub catalogue : List Rule
   pub read : catalogue_value value ≡ good catalogue
-  pub counted : length catalogue ≡ length value / rule_bytes_lem
-  pub few : min (length value / rule_bytes_lem) 1024 ≡ length value / rule_bytes_lem
+  pub counted : length catalogue ≡ length value / rule_width
+  pub few : min (length value / rule_width) 1024 ≡ length value / rule_width
 
 rules_count : (done : List Rule) (pieces : List (List ℕ)) (c : List Rule) → rules_read done pieces ≡ good c
     → length c ≡ length done + length pieces
@@ -74,15 +74,15 @@ unfolding catalogue_value
 rules_passed value e =
     let found = passed (catalogue_value value) e in
     let Right : Checked (List Rule) → Type 0 =
-    λ read. read ≡ good found.0 → (length found.0 ≡ length value / rule_bytes_lem) × (length value ≤ rule_bytes_lem * most_rules) in
-    let count = length value / rule_bytes_lem in
+    λ read. read ≡ good found.0 → (length found.0 ≡ length value / rule_width) × (length value ≤ rule_width * most_rules) in
+    let count = length value / rule_width in
     let both =
-    tested Right (eqb (length value % rule_bytes_lem) 0) (λ uneven. bad_good)
+    tested Right (eqb (length value % rule_width) 0) (λ uneven. bad_good)
     (λ whole.
-    tested Right (leb (length value) (rule_bytes_lem * most_rules)) (λ many. bad_good)
+    tested Right (leb (length value) (rule_width * most_rules)) (λ many. bad_good)
     (λ few read. (
-      rules_count [] (chunks rule_bytes_lem count value) found.0 read ∙ omega (arith, length_chunks rule_bytes_lem count value),
-      leb-true (length value) (rule_bytes_lem * most_rules) few,
+      rules_count [] (chunks rule_width count value) found.0 read ∙ omega (arith, length_chunks rule_width count value),
+      leb-true (length value) (rule_width * most_rules) few,
     )))
     found.1 in
     record { catalogue = found.0; read = found.1; counted = both.0; few = min-eq_left (omega (arith, both.1)) }
@@ -104,7 +104,7 @@ default_passed false value e = refl
 default_passed true value e =
     let found = passed (default_value (some value)) e in
     let Right : Checked Action → Type 0 = λ read. read ≡ good found.0 → read ≡ good Permit in
-    tested Right (eqb (length value) default_bytes_lem) (λ long. bad_good)
+    tested Right (eqb (length value) default_width) (λ long. bad_good)
     (λ fits. default_tested Right value (λ wrong. bad_good) (λ is passes. refl)) found.1
 
 -- whether tests pass does not hang on what is made of the value
@@ -121,7 +121,7 @@ bad_rules v why e = rw (failed (catalogue_value v.rules) why e)
 module _ (v : FieldValues) (rules : Rules v.rules) where
   -- what `policy_checked` answers to a policy
   abbrev pub Answers : Checking → List ℕ → Type 0
-  Answers answer value = answer ≡ checking (policy_value (min (length v.rules / rule_bytes_lem) 1024) value)
+  Answers answer value = answer ≡ checking (policy_value (min (length v.rules / rule_width) 1024) value)
 
   over : (answer : Checking) (value : List ℕ) → Answers answer value
       → answer ≡ checking (policy_value (length rules.catalogue) value)
