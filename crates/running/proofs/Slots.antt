@@ -23,11 +23,6 @@ use lib.Seq.{
   get_or-set_same,
 }
 
--- the length of an array that is a struct's first field: at a function's entry `c.good` has it, at `.1 .1 .0 .1 .0 .1` of the struct's part,
--- of the elements one by one
-pub field_length : (n : ℕ) (l : List ℕ) → length (map (λ (x : ℕ). x) l) ≡ n → length l ≡ n
-field_length n l known = sym (length-map l (λ (x : ℕ). x)) ∙ known
-
 -- as many as are shown, taken again
 pub take_shown : (n : ℕ) (l : List ℕ) → take (length (take n l)) l ≡ take n l
 take_shown zero l = refl

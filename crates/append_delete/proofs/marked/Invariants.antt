@@ -1,0 +1,18 @@
+use Prim.Native.Nat.{◌-◌, ◌≤◌, ◌<◌}
+use mathlib.Core.Path.{◌≡◌, refl}
+use mathlib.Core.Logic.{⊎_elim}
+use native.Mathlib.Omega.{arith}
+use borrow.Author.Rules.{rules}
+use lib.ListN.{length, take, length-set}
+use Rattle.deployment.specs.Values.{numbers_of}
+use Rattle.plans.specs.Marked.{Marked}
+use Rattle.plans.proofs.Marked.{marks_none}
+use Rattle.append_delete.proofs.DeletesAppends.{marks_one, marks_out}
+use Rattle.append_delete.proofs.marked.Given as goal
+
+abbrev pub invariant-loop-i : goal.invariant-loop-i
+invariant-loop-i l =
+    (l.i ≤ l.count) × (l.count ≤ length (numbers_of l.list)) × (length l.marks ≡ 1024) × Marked l.marks (take l.i (numbers_of l.list))
+
+abbrev pub decreases-loop-i : goal.decreases-loop-i
+decreases-loop-i l = l.count - l.i

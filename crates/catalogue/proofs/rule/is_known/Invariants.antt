@@ -1,0 +1,23 @@
+use Prim.Native.Nat.{ℕ, ◌+◌, ◌*◌, ◌≤◌, ◌<◌, ◌-◌}
+use native.Mathlib.Omega.{arith}
+use mathlib.Core.Path.{◌≡◌, refl, sym, ◌∙◌, ap}
+use mathlib.Core.List.{List, []}
+use lib.ListN.{length, take, drop, get_or}
+use borrow.Author.Rules.{rules}
+use Rattle.policy.specs.Rule.{Rule}
+use Rattle.deployment.specs.Values.{rule_of, same_rule, known}
+use Rattle.deployment.specs.Catalogue.{record_count, catalogue_of}
+use Rattle.deployment.proofs.Records.{record_at, record_there, record_whole}
+use Rattle.catalogue.proofs.Rules.{known_here, known_later, known_nowhere, records_fit, first_count, first_at}
+use Rattle.catalogue.proofs.rule.is_known.Given as goal
+
+-- the rules that are compared
+abbrev pub among : ℕ → ℕ → List ℕ → List Rule
+among skip count rules = take count (catalogue_of skip rules)
+
+abbrev pub invariant-loop-k : goal.invariant-loop-k
+invariant-loop-k l =
+    (l.k ≤ l.count) × (known (rule_of l.rule) (among l.skip l.count l.rules) ≡ known (rule_of l.rule) (drop l.k (among l.skip l.count l.rules)))
+
+abbrev pub decreases-loop-k : goal.decreases-loop-k
+decreases-loop-k l = l.count - l.k

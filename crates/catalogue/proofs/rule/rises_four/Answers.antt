@@ -1,0 +1,17 @@
+-- `rises_four` meets its contract: it compares the two numbers that the range is read as. Assumes nothing.
+use Prim.Native.Nat.{◌+◌}
+use native.Mathlib.Omega.{arith}
+use mathlib.Core.Path.{◌∙◌, ap₂}
+use lib.Dec.{leb}
+use Rattle.deployment.specs.Values.{range_at, rising}
+use Rattle.deployment.proofs.Records.{number_there}
+use borrow.Author.Rules.{rules}
+use Rattle.catalogue.proofs.rule.rises_four.Goals as goal
+
+pub returns : goal.returns
+unfolding rising range_at
+returns c =
+    let rule = c.args.rule.now in
+    let at = c.args.at in
+    ap₂ leb (c.four_at.ensures ∙ number_there at 4 rule (omega (arith, c.requires)))
+    (c.four_at-2.ensures ∙ number_there (at + 4) 4 rule (omega (arith, c.requires)))

@@ -1,0 +1,14 @@
+-- `decode` meets its contract: the type's test, then the command of the code. Assumes nothing.
+use Rattle.policy.proofs.Tests.{fails, passes}
+use Rattle.deployment.specs.Values.{command_from}
+use Rattle.deployment.specs.Commands.{decoded}
+use borrow.Author.Rules.{rules}
+use Rattle.commands.proofs.decode.Goals as goal
+
+pub returns-then-not-allows : goal.returns-then-not-allows
+unfolding command_from decoded
+returns-then-not-allows c = rw (fails c.allows.ensures c.if-not-allows.true-raw)
+
+pub returns : goal.returns
+unfolding command_from
+returns c = rw (passes c.allows.ensures c.if-not-allows.false-raw) c.command_of.ensures

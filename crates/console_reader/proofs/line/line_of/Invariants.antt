@@ -1,0 +1,16 @@
+use Prim.Native.Nat.{◌-◌, ◌≤◌}
+use native.Mathlib.Omega.{arith}
+use mathlib.Core.Path.{◌≡◌, sym, ◌∙◌}
+use mathlib.Core.Logic.{⊎_elim}
+use lib.ListN.{drop}
+use Rattle.policy.specs.Command.{codes_of}
+use Rattle.console_text.specs.Reading.{any_read}
+use Rattle.console_reader.proofs.Codes.{read_from, all_codes, no_code_left, other_type, no_line, line_met}
+use borrow.Author.Rules.{rules}
+use Rattle.console_reader.proofs.line.line_of.Given as goal
+
+abbrev pub invariant-loop-code : goal.invariant-loop-code
+invariant-loop-code l = (l.code ≤ 6) × (any_read l.maker (codes_of l.kind) (drop l.at l.text) ≡ read_from l.maker l.kind (drop l.at l.text) l.code)
+
+abbrev pub decreases-loop-code : goal.decreases-loop-code
+decreases-loop-code l = 6 - l.code

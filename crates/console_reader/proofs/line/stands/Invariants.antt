@@ -1,0 +1,14 @@
+use Prim.Native.Nat.{◌+◌, ◌-◌, ◌≤◌}
+use native.Mathlib.Omega.{arith}
+use mathlib.Core.Path.{◌≡◌, sym, ◌∙◌}
+use lib.ListN.{length, drop}
+use Rattle.console_text.specs.Reading.{starts}
+use Rattle.console_reader.proofs.Standing.{from_start, same_byte, other_byte, word_ends, too_short}
+use borrow.Author.Rules.{rules}
+use Rattle.console_reader.proofs.line.stands.Given as goal
+
+abbrev pub invariant-loop-k : goal.invariant-loop-k
+invariant-loop-k l = (l.at + length l.word ≤ length l.text) × (starts l.word (drop l.at l.text) ≡ starts (drop l.k l.word) (drop (l.at + l.k) l.text))
+
+abbrev pub decreases-loop-k : goal.decreases-loop-k
+decreases-loop-k l = length l.word - l.k

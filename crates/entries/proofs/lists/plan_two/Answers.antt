@@ -1,0 +1,49 @@
+-- `lists::plan_two` meets its contract: values that are turned away leave the place as it was; else the lists are planned as they are given.
+-- Assumes nothing.
+use native.Mathlib.Omega.{arith}
+use borrow.Author.Rules.{rules}
+use Rattle.deployment.proofs.Bytes.{elements_are_bytes}
+use Rattle.entries.specs.Answers.{planned}
+use Rattle.values.proofs.ValuesLent.{Lent, LentRead}
+use Rattle.deployment.proofs.Lent.{turned_away}
+use Rattle.entries.proofs.Given.{values_passed, values_turned, planners_ask, two_planned, values_given_lem}
+use Rattle.entries.proofs.lists.plan_two.Goals as goal
+use Rattle.entries.proofs.lists.plan_two.Goals.{After-values_checked-c, In_default}
+
+abbrev lent : After-values_checked-c → Lent
+lent c =
+    let args = c.args in
+    record {
+      rules = args.rules.now;
+      initial = args.initial.now;
+      target = args.target.now;
+      has_default = args.has_default;
+      default = args.default.now;
+      has_keep = args.has_keep;
+      keep = args.keep.now;
+      has_script = args.has_script;
+      script = args.script.now;
+    }
+
+-- the values pass
+passed : (c : In_default) → LentRead (lent (goal.at.In_default c).After-values_checked-c)
+passed c =
+    values_passed (lent (goal.at.In_default c).After-values_checked-c) c.values_checked-c.ensures
+    (elements_are_bytes _ (λ i. omega (arith, c.shared_slice_known-1.given i)))
+    (elements_are_bytes _ (λ i. omega (arith, c.shared_slice_known-2-1.given i)))
+    (elements_are_bytes _ (λ i. omega (arith, c.shared_slice_known-3-1.given i)))
+    (elements_are_bytes _ (λ i. omega (arith, c.shared_slice_known-4-1.given i)))
+    (elements_are_bytes _ (λ i. omega (arith, c.shared_slice_known-5-1.given i)))
+    (elements_are_bytes _ (λ i. omega (arith, c.shared_slice_known-6-1.given i)))
+    c.in_default.is
+
+pub returns-in-Bad : goal.returns-in-Bad
+unfolding planned
+returns-in-Bad c =
+    turned_away _ _ _ (values_turned (lent (goal.at.returns-in-Bad c).After-values_checked-c) c.values_checked-c.ensures c.in-Bad.is)
+
+pub plan_two-requires : goal.plan_two-requires
+plan_two-requires c = planners_ask (values_given_lem (passed (goal.at.plan_two-requires c).In_default))
+
+pub returns : goal.returns
+returns c = two_planned (values_given_lem (passed (goal.at.returns c).In_default)) c.args.place.now c.plan_two.ensures

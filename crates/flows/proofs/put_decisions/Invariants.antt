@@ -1,0 +1,25 @@
+use Prim.Native.Nat.{ℕ, ◌+◌, ◌-◌, ◌*◌, ◌/◌, ◌≤◌, ◌<◌, zero-le}
+use native.Mathlib.Omega.{arith}
+use mathlib.Core.Path.{◌≡◌}
+use mathlib.Core.List.{List}
+use lib.ListN.{length}
+use Rattle.policy.specs.Policy.{under, decide, matching}
+use Rattle.policy.specs.declared.Action.{Action}
+use Rattle.policy.specs.declared.Decision.{Decision}
+use Rattle.policy.specs.declared.Flow.{Flow}
+use Rattle.deployment.specs.Values.{numbers_of}
+use Rattle.deployment.specs.Catalogue.{catalogue_of}
+use Rattle.deployment.proofs.Storing.{stored_long}
+use Rattle.flows.proofs.ManyFlows.{Put, none_put, one_more_put, all_put}
+use borrow.Author.Rules.{rules}
+use Rattle.flows.proofs.put_decisions.Given as goal
+
+-- what decides a flow
+abbrev pub decides : List ℕ → ℕ → List ℕ → Action → Flow → Decision
+decides rules skip policy default flow = decide (matching (catalogue_of skip rules) flow) (under default (numbers_of policy))
+
+abbrev pub invariant-loop-k : goal.invariant-loop-k
+invariant-loop-k l = (l.k ≤ l.count) × Put (decides l.rules l.skip l.policy l.default) l.flows l.initial.place l.place l.k
+
+abbrev pub decreases-loop-k : goal.decreases-loop-k
+decreases-loop-k l = l.count - l.k

@@ -1,0 +1,34 @@
+-- `is_name` meets its contract. The loop's invariant: it is a name exactly when all bytes from k on are such of names. The measure is how many bytes
+-- are left. Assumes nothing.
+use Prim.Native.Nat.{◌-◌}
+use mathlib.Core.Path.{◌≡◌, sym, ◌∙◌}
+use mathlib.Core.Logic.{⊎_elim}
+use lib.ListN.{length, drop, get_or}
+use Rattle.policy.specs.Lists.{all}
+use Rattle.iptables.specs.Words.{in_name, is_name}
+use Rattle.iptables_lines.proofs.Names.{in_name_lem, no_control, no_quote, no_name, name_begins, name_goes_on, name_breaks, name_ends}
+use borrow.Author.Rules.{rules}
+use Rattle.iptables_lines.proofs.is_name.Goals as goal
+
+pub loop-k-init : goal.loop-k-init
+loop-k-init c = name_begins c.args.name.now c.if-name-eq0.false
+
+pub loop-k-preserved : goal.loop-k-preserved
+loop-k-preserved c =
+    let name = c.args.name.now in
+    let k = c.loop-k.k in
+    c.loop-k.invariant ∙ name_goes_on name k c.loop-k-test.true (in_name_lem (get_or name k 0) c.then-name-k-le-BLANK.false c.if-name-k-eq-QUOTE.false-raw)
+
+pub returns : goal.returns
+returns c = sym (c.loop-k.invariant ∙ name_ends c.args.name.now c.loop-k.k c.loop-k-test.false)
+
+pub returns-then-name-k-le-BLANK : goal.returns-then-name-k-le-BLANK
+returns-then-name-k-le-BLANK c =
+    let name = c.args.name.now in
+    let k = c.loop-k.k in
+    let byte = get_or name k 0 in
+    let other = ⊎_elim (λ control. no_control byte control.true) (λ quote. no_quote byte quote.2.true) c.then-name-k-le-BLANK.branch in
+    sym (c.loop-k.invariant ∙ name_breaks name k c.loop-k-test.true other)
+
+pub returns-then-name-eq0 : goal.returns-then-name-eq0
+returns-then-name-eq0 c = sym (no_name c.args.name.now c.if-name-eq0.true)

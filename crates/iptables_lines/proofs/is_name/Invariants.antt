@@ -1,0 +1,15 @@
+use Prim.Native.Nat.{◌-◌}
+use mathlib.Core.Path.{◌≡◌, sym, ◌∙◌}
+use mathlib.Core.Logic.{⊎_elim}
+use lib.ListN.{length, drop, get_or}
+use Rattle.policy.specs.Lists.{all}
+use Rattle.iptables.specs.Words.{in_name, is_name}
+use Rattle.iptables_lines.proofs.Names.{in_name_lem, no_control, no_quote, no_name, name_begins, name_goes_on, name_breaks, name_ends}
+use borrow.Author.Rules.{rules}
+use Rattle.iptables_lines.proofs.is_name.Given as goal
+
+abbrev pub invariant-loop-k : goal.invariant-loop-k
+invariant-loop-k l = is_name l.name ≡ all in_name (drop l.k l.name)
+
+abbrev pub decreases-loop-k : goal.decreases-loop-k
+decreases-loop-k l = length l.name - l.k

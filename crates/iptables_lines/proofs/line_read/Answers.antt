@@ -1,0 +1,58 @@
+-- `line_read_lem` meets its contract: a line that starts with `*`, `COMMIT`, a line that is passed over, or one that is read by its words.
+-- Assumes nothing.
+use Prim.Native.Nat.{ℕ}
+use mathlib.Core.Path.{◌≡◌, sym, ◌∙◌, ap}
+use mathlib.Core.Bool.{true, false}
+use mathlib.Core.Logic.{⊎_elim}
+use mathlib.Core.List.{List}
+use Rattle.policy.specs.Lists.{same}
+use Rattle.lines.specs.Text.{text}
+use Rattle.iptables.specs.Words.{starts_with}
+use Rattle.iptables_lines.specs.Told.{read_told}
+use Rattle.iptables_lines.proofs.Lines.{filter_opens, star_closes, commit_closes, empty_passed, comment_passed, words_line}
+use borrow.Author.Rules.{rules}
+use Rattle.iptables_lines.proofs.line_read.Goals as goal
+use Rattle.iptables_lines.proofs.line_read.Goals.{After-starts_with, Else-same_bytes, Else-starts_with, Then-starts_with}
+
+-- the line is asked for a `*`, and compared with `COMMIT`
+abbrev line : After-starts_with → List ℕ
+line c = c.args.line.now
+
+star : (c : Then-starts_with) → starts_with 42 (line (goal.at.Then-starts_with c).After-starts_with) ≡ true
+star c = sym c.starts_with.ensures ∙ c.if-starts_with.true
+
+not_star : (c : Else-starts_with) → starts_with 42 (line (goal.at.Else-starts_with c).After-starts_with) ≡ false
+not_star c = sym c.starts_with.ensures ∙ c.if-starts_with.false
+
+not_commit : (c : Else-same_bytes) → same (line (goal.at.Else-same_bytes c).After-starts_with) (text "COMMIT") ≡ false
+unfolding text
+not_commit c = sym c.same_bytes.ensures ∙ c.if-same_bytes.false
+
+pub returns-then-is_filter : goal.returns-then-is_filter
+returns-then-is_filter c =
+    c.plain.ensures ∙ filter_opens (line (goal.at.returns-then-is_filter c).After-starts_with) (star (goal.at.returns-then-is_filter c).Then-starts_with) (sym c.is_filter.ensures ∙ c.if-is_filter.true)
+
+pub returns-then-starts_with : goal.returns-then-starts_with
+returns-then-starts_with c =
+    c.plain-then-starts_with.ensures ∙ star_closes (line (goal.at.returns-then-starts_with c).After-starts_with) (star (goal.at.returns-then-starts_with c).Then-starts_with) (sym c.is_filter.ensures ∙ c.if-is_filter.false)
+
+pub returns-then-same_bytes : goal.returns-then-same_bytes
+unfolding text
+returns-then-same_bytes c =
+    c.plain-then-same_bytes.ensures ∙ commit_closes (line (goal.at.returns-then-same_bytes c).After-starts_with) (not_star (goal.at.returns-then-same_bytes c).Else-starts_with) (sym c.same_bytes.ensures ∙ c.if-same_bytes.true)
+
+pub returns-then-line-eq0 : goal.returns-then-line-eq0
+returns-then-line-eq0 c =
+    let s = line (goal.at.returns-then-line-eq0 c).After-starts_with in
+    c.plain-then-line-eq0.ensures
+    ∙ ⊎_elim
+    (λ empty. empty_passed s (not_star (goal.at.returns-then-line-eq0 c).Else-starts_with) (not_commit (goal.at.returns-then-line-eq0 c).Else-same_bytes) empty.true)
+    (λ (some, asked, hash). comment_passed s (not_star (goal.at.returns-then-line-eq0 c).Else-starts_with) (not_commit (goal.at.returns-then-line-eq0 c).Else-same_bytes) some.false (sym asked.ensures ∙ hash.true))
+    c.then-line-eq0.branch
+
+pub returns : goal.returns
+returns c =
+    c.words_read.ensures
+    ∙ ap read_told
+    (words_line (line (goal.at.returns c).After-starts_with) (not_star (goal.at.returns c).Else-starts_with) (not_commit (goal.at.returns c).Else-same_bytes) c.then-line-eq0.false
+    (sym c.starts_with-else-line-eq0.ensures ∙ c.if-starts_with-2.false))

@@ -1,0 +1,32 @@
+-- `put_numbers` meets its contract. The loop's invariant: the first k numbers are stored behind the head, two bytes each. The measure is how many are
+-- left. Assumes nothing.
+use Prim.Native.Nat.{◌+◌, ◌*◌, ◌-◌, ◌≤◌, zero-le}
+use native.Mathlib.Omega.{arith}
+use mathlib.Core.Path.{◌∙◌}
+use borrow.Author.Rules.{rules}
+use Rattle.deployment.specs.Values.{numbers_bytes}
+use Rattle.deployment.specs.FieldValues.{Stored}
+use Rattle.deployment.proofs.Storing.{stored_long}
+use Rattle.iptables.specs.Listing.{numbers_from}
+use Rattle.iptables_reader.proofs.Filing.{numbers_none, numbers_further, policy_put}
+use Rattle.iptables_reader.proofs.file.put_numbers.Goals as goal
+
+pub loop-k-init : goal.loop-k-init
+loop-k-init c = (zero-le, numbers_none _ _)
+
+pub loop-k-preserved : goal.loop-k-preserved
+loop-k-preserved c =
+    let at-loop = c.loop-k in
+    (omega arith, rw c.store-in-loop-k.ensures (numbers_further at-loop.k (omega arith) at-loop.invariant.1))
+
+pub returns : goal.returns
+returns c =
+    let a = c.args in
+    policy_put a.place.now a.at a.tag a.count c.loop-k.k (omega (arith, c.ranges.tag))
+    c.requires.0 (omega arith) c.store.ensures c.loop-k.invariant.1
+
+pub shape_of-place : goal.shape_of-place
+shape_of-place c = stored_long c.loop-k.invariant.1 ∙ c.store.auto.0
+
+pub loop-k-smaller : goal.loop-k-smaller
+loop-k-smaller c = omega arith

@@ -1,0 +1,17 @@
+use Prim.Native.Nat.{◌+◌, ◌*◌, ◌-◌, ◌≤◌, zero-le}
+use native.Mathlib.Omega.{arith}
+use mathlib.Core.Path.{◌∙◌}
+use borrow.Author.Rules.{rules}
+use Rattle.deployment.specs.Values.{numbers_bytes}
+use Rattle.deployment.specs.FieldValues.{Stored}
+use Rattle.deployment.proofs.Storing.{stored_long}
+use Rattle.iptables.specs.Listing.{numbers_from}
+use Rattle.iptables_reader.proofs.Filing.{numbers_none, numbers_further, policy_put}
+use Rattle.iptables_reader.proofs.file.put_numbers.Given as goal
+
+abbrev pub invariant-loop-k : goal.invariant-loop-k
+invariant-loop-k l =
+    (l.k ≤ l.count) × Stored l.initial.place (l.at + 3) (numbers_bytes (numbers_from 0 l.k)) l.place (l.at + 3 + 2 * l.k)
+
+abbrev pub decreases-loop-k : goal.decreases-loop-k
+decreases-loop-k l = l.count - l.k

@@ -1,0 +1,14 @@
+use Prim.Native.Nat.{◌*◌, ◌-◌, ◌≤◌, zero-le}
+use native.Mathlib.Omega.{arith}
+use mathlib.Core.Path.{◌≡◌}
+use borrow.Author.Rules.{rules}
+use Rattle.deployment.specs.FieldValues.{Stored}
+use Rattle.deployment.proofs.Storing.{stored_long}
+use Rattle.iptables_reader.proofs.Filing.{fields_at, fields_none, fields_further}
+use Rattle.iptables_reader.proofs.file.put_rules.Given as goal
+
+abbrev pub invariant-loop-k : goal.invariant-loop-k
+invariant-loop-k l = (l.k ≤ l.count) × Stored l.initial.place 0 (fields_at l.listing l.starts l.k) l.place (l.k * 30)
+
+abbrev pub decreases-loop-k : goal.decreases-loop-k
+decreases-loop-k l = l.count - l.k

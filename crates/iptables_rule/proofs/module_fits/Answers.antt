@@ -1,0 +1,58 @@
+-- `module_fits` meets its contract: `-m` isn't given, it is given twice, or its one word is tested as the definition does. Assumes nothing.
+use Prim.Native.Nat.{ℕ}
+use mathlib.Core.Path.{◌≡◌, refl, sym, ◌∙◌}
+use mathlib.Core.Bool.{◌&&◌, ◌||◌}
+use mathlib.Core.Logic.{⊎_elim}
+use mathlib.Core.List.{List}
+use Rattle.policy.specs.Lists.{same}
+use Rattle.lines.specs.Text.{text}
+use Rattle.iptables.specs.Options.{Given, protocol_is, is_behind, module_fits}
+use Rattle.iptables_rule.specs.Found.{given_from}
+use Rattle.iptables_rule.proofs.Finding.{not_given, given_once, given_twice}
+use Rattle.iptables_rule.proofs.Joining.{or_first, or_second, and_first, and_second}
+use borrow.Author.Rules.{rules}
+use Rattle.iptables_rule.proofs.module_fits.Goals as goal
+use Rattle.iptables_rule.proofs.module_fits.Goals.{After-option-found, After-word_of-word, Joined-is_behind}
+
+abbrev given : After-option-found → List Given
+given c = let args = c.args in given_from args.at args.line.now
+
+abbrev word : After-word_of-word → List ℕ
+word c = c.word_of-word.result.now
+
+fits : (c : After-word_of-word) → let g = given (goal.at.After-word_of-word c).After-option-found in
+    module_fits g ≡ (is_behind (text "-m") g && protocol_is (word c) g && (same (word c) (text "tcp") || same (word c) (text "udp")))
+unfolding module_fits text
+fits c =
+    rw (given_once c.option-found.ensures c.if-found-eq0.false c.if-found-eq2.false, module_fits, ← c.word_of-word.ensures) refl
+
+behind : (c : Joined-is_behind) → let g = given (goal.at.Joined-is_behind c).After-option-found in c.if-is_behind.value ≡ (is_behind (text "-m") g && protocol_is (word (goal.at.Joined-is_behind c).After-word_of-word) g)
+unfolding text
+behind c =
+    let first = c.is_behind.ensures in
+    ⊎_elim (λ t. and_second first t.0.true (t.2 ∙ t.1.ensures)) (λ f. and_first first _ f.0.false f.1) c.if-is_behind.branch
+
+pub returns-then-found-eq0 : goal.returns-then-found-eq0
+unfolding module_fits text
+returns-then-found-eq0 c = rw (not_given c.option-found.ensures c.if-found-eq0.true, module_fits) refl
+
+pub returns-then-found-eq2 : goal.returns-then-found-eq2
+unfolding module_fits text
+returns-then-found-eq2 c = rw ((given_twice c.option-found.ensures c.if-found-eq2.true).is, module_fits) refl
+
+-- then the word: it is `tcp`, or tested against `udp`
+pub returns-then-same_bytes : goal.returns-then-same_bytes
+unfolding text
+returns-then-same_bytes c =
+    and_second (behind (goal.at.returns-then-same_bytes c).Joined-is_behind) c.if-protocol_is.true (or_first c.same_bytes.ensures _ c.if-same_bytes.true refl)
+    ∙ sym (fits (goal.at.returns-then-same_bytes c).After-word_of-word)
+
+pub returns-else-same_bytes : goal.returns-else-same_bytes
+unfolding text
+returns-else-same_bytes c =
+    and_second (behind (goal.at.returns-else-same_bytes c).Joined-is_behind) c.if-protocol_is.true (or_second c.same_bytes.ensures c.if-same_bytes.false c.same_bytes-else-same_bytes.ensures)
+    ∙ sym (fits (goal.at.returns-else-same_bytes c).After-word_of-word)
+
+pub returns-else-protocol_is : goal.returns-else-protocol_is
+returns-else-protocol_is c =
+    and_first (behind (goal.at.returns-else-protocol_is c).Joined-is_behind) _ c.if-protocol_is.false refl ∙ sym (fits (goal.at.returns-else-protocol_is c).After-word_of-word)

@@ -1,0 +1,15 @@
+-- `put_why` meets its contract: the word and the number, the position and the end of the line, one behind the other. Assumes nothing.
+use Rattle.std.proofs.Common.{arith, rules}
+use Rattle.lines.specs.Text.{text, named, refused_text}
+use Rattle.lines.proofs.Lengths.{refused_short}
+use Rattle.lines.proofs.Pieces.{puts_more, puts_whole}
+use Rattle.lines.proofs.outcomes.put_why.Goals as goal
+
+pub returns : goal.returns
+unfolding refused_text named text
+returns c =
+    rw (← c.why_number-number.ensures)
+    (puts_whole (puts_more c.put_named-next.ensures (puts_more c.put_named-next-2.ensures c.put_word.ensures))
+    (rw c.why_number-number.ensures
+    (omega (arith, refused_short (record { c.before.before.before.before.before.before.before.before.before.before.before.before.before.before = c.args.why; at = c.args.at }) (omega (arith, c.ranges.at)))))
+    (omega arith))

@@ -1,0 +1,12 @@
+use Rattle.std.proofs.Common.{◌≡◌, ◌-◌, ◌<◌, length, get_or, take, refl, arith, length-take-le, drop-cons, get_or-take, rules}
+use Rattle.lines.specs.Text.{spaced, spaced_all}
+use Rattle.lines.proofs.Lines.{Lines, following, no_lines, one_line, all_lines}
+use Rattle.lines.proofs.Lengths.{take_small, all_short}
+use Rattle.lines.proofs.spaced.put_numbers.Given as goal
+
+abbrev pub invariant-loop-k : goal.invariant-loop-k
+invariant-loop-k l =
+    (length l.place ≡ length l.initial.place) × Lines following 0 (take l.count l.numbers) (spaced_all (take l.count l.numbers)) l.initial.place l.at l.place l.next l.k
+
+abbrev pub decreases-loop-k : goal.decreases-loop-k
+decreases-loop-k l = l.count - l.k

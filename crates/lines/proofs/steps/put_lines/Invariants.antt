@@ -1,0 +1,17 @@
+use Rattle.std.proofs.Common.{◌≡◌, suc, ◌+◌, ◌-◌, ◌<◌, ◌∷◌, length, drop, sym, refl, ◌∙◌, arith, rules}
+use Rattle.deployment.specs.Values.{script_of}
+use Rattle.deployment.specs.Commands.{command_count}
+use Rattle.replay.specs.Answers.{commands_of, Readable}
+use Rattle.replay.proofs.Scripts.{script_count, never_wrong}
+use Rattle.lines.specs.Text.{line_text, lines_text}
+use Rattle.lines.proofs.Lines.{Lines, next_command, no_lines, one_line, all_lines}
+use Rattle.lines.proofs.steps.put_lines.Given as goal
+
+abbrev pub invariant-loop-k : goal.invariant-loop-k
+invariant-loop-k l =
+    (length l.place ≡ length l.initial.place)
+    × (Readable l.script
+    → Lines lines_text 1 (commands_of (script_of l.script)) (lines_text 1 (commands_of (script_of l.script))) l.initial.place l.at l.place l.next l.k)
+
+abbrev pub decreases-loop-k : goal.decreases-loop-k
+decreases-loop-k l = l.count - l.k

@@ -1,0 +1,104 @@
+-- `first_unsupported` meets its contract. Over the places: what is left of the list has the first unsupported place of the whole. At one place:
+-- a and b never pass the front parts by the rules before it, so a policy that comes to the place's own rule supports it, and where both are
+-- stuck neither does. Assumes nothing.
+use Prim.Native.Nat.{suc, ◌+◌, ◌≤◌, ◌-◌}
+use native.Mathlib.Omega.{arith}
+use mathlib.Core.Path.{◌≡◌, refl, sym, ◌∙◌, ap₂}
+use mathlib.Core.Bool.{◌||◌}
+use mathlib.Core.Logic.{⊎_elim}
+use lib.ListN.{length, drop, get_or}
+use borrow.Author.Rules.{rules}
+use borrow.Author.Tests.{not-true, not-false, eqb-true, eqb-false}
+use Rattle.policy.specs.Judge.{supported, ordered, first_failing, first_unsupported}
+use Rattle.deployment.specs.Values.{numbers_of}
+use Rattle.policy.proofs.Tests.{never}
+use Rattle.ordering.specs.Fronts.{stands, front, is_at}
+use Rattle.ordering.proofs.Support.{front_fits, ahead_inside, ahead_later, ahead_stuck, supported_fronts, supported_next}
+use Rattle.ordering.proofs.Search.{failing_later, failing_here, failing_none, none_all}
+use Rattle.ordering.proofs.first_unsupported.Goals as goal
+use Rattle.ordering.proofs.first_unsupported.Goals.{After-advanced-next_b}
+
+pub places-init : goal.places-init
+unfolding first_unsupported
+places-init c = (omega arith, refl)
+
+pub loop-next_a-init : goal.loop-next_a-init
+loop-next_a-init c = (omega arith, omega arith)
+
+-- where the next rules of both policies have been looked at: no index has passed its front part
+ahead : (c : After-advanced-next_b)
+    → let args = c.args in
+    let test = stands args.places.now c.places.k in
+    (c.loop-next_a.a ≤ c.advanced-next_a.result) × (c.advanced-next_a.result ≤ front test (numbers_of args.initial.now))
+    × (c.loop-next_a.b ≤ c.advanced-next_b.result) × (c.advanced-next_b.result ≤ front test (numbers_of args.target.now))
+ahead c =
+    let args = c.args in
+    let test = stands args.places.now c.places.k in
+    let initial = numbers_of args.initial.now in
+    let target = numbers_of args.target.now in
+    let ea = c.advanced-next_a.ensures in
+    let eb = c.advanced-next_b.ensures in (
+      rw ea (ahead_later test c.loop-next_a.a initial),
+      rw ea (ahead_inside test c.loop-next_a.a initial c.loop-next_a.invariant.0),
+      rw eb (ahead_later test c.loop-next_a.b target),
+      rw eb (ahead_inside test c.loop-next_a.b target c.loop-next_a.invariant.1),
+    )
+
+pub loop-next_a-smaller : goal.loop-next_a-smaller
+loop-next_a-smaller c =
+    let args = c.args in
+    let test = stands args.places.now c.places.k in
+    let fits = front_fits test (numbers_of args.initial.now) in
+    let fits' = front_fits test (numbers_of args.target.now) in
+    let (la, fa, lb, fb) = ahead (goal.at.loop-next_a-smaller c).After-advanced-next_b in
+    ⊎_elim
+    (λ w. let moved = eqb-false c.advanced-next_b.result c.loop-next_a.b w.1.false in omega arith)
+    (λ w. let moved = w.false in omega arith)
+    c.else-next_a-a.branch
+
+pub loop-next_a-preserved : goal.loop-next_a-preserved
+loop-next_a-preserved c = let (la, fa, lb, fb) = ahead (goal.at.loop-next_a-preserved c).After-advanced-next_b in (fa, fb)
+
+pub overflow_add-k : goal.overflow_add-k
+overflow_add-k c = omega (arith, c.places-test.true)
+
+pub places-smaller : goal.places-smaller
+places-smaller c = omega (arith, c.places-test.true)
+
+pub places-preserved : goal.places-preserved
+places-preserved c =
+    let l = c.args.list.now in
+    let initial = numbers_of c.args.initial.now in
+    let target = numbers_of c.args.target.now in
+    let inside = c.places-test.true in
+    let next = sym c.is_next.ensures ∙ not-false c.is_next.result c.loop-next_a-test.false-raw in (
+      omega arith,
+      c.places.invariant.1
+          ∙ failing_later (supported initial target l) l c.places.k inside
+          (supported_next initial target c.args.places.now l c.requires.0 c.places.k inside c.loop-next_a.a c.loop-next_a.b c.loop-next_a.invariant.0 c.loop-next_a.invariant.1 next),
+    )
+
+pub overflow_add-result : goal.overflow_add-result
+overflow_add-result c = omega (arith, c.places.invariant.0)
+
+pub returns : goal.returns
+unfolding ordered first_unsupported
+returns c =
+    let l = c.args.list.now in
+    let k = c.places.k in
+    let initial = numbers_of c.args.initial.now in
+    let target = numbers_of c.args.target.now in
+    let test = stands c.args.places.now k in
+    ⊎_elim
+    (λ w. never (none_all (supported initial target l) 1 l (c.places.invariant.1 ∙ failing_none (supported initial target l) (suc k) l k w.false)) c.requires.1)
+    (λ w.
+    let inside = w.0.true in
+    let a = ahead_stuck test w.2.a initial w.2.invariant.0 (sym w.5.ensures ∙ w.7.true) in
+    let b = ahead_stuck test w.2.b target w.2.invariant.1 (sym w.6.ensures ∙ eqb-true w.6.result w.2.b w.8.true) in
+    c.places.invariant.1
+    ∙ failing_here (supported initial target l) l k inside
+    (sym (supported_fronts initial target c.args.places.now l c.requires.0 k inside)
+    ∙ ap₂ (λ m n. is_at (get_or l k 0) m initial || is_at (get_or l k 0) n target) (sym a) (sym b)
+    ∙ sym w.3.ensures
+    ∙ not-true w.3.result w.4.true))
+    c.places-test.branch

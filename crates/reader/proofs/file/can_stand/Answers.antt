@@ -1,0 +1,65 @@
+-- `can_stand` meets its contract: by the last tag, the tags that can stand after it. Assumes nothing.
+use mathlib.Core.Path.{sym, ◌∙◌}
+use mathlib.Core.Logic.{⊎_elim}
+use mathlib.Core.List.{[], ◌∷◌}
+use borrow.Author.Tests.{ne_eqb, eqb-true, eqb-false}
+use Rattle.policy.specs.Lists.{mem}
+use Rattle.deployment.specs.File.{tags_after}
+use Rattle.reader.proofs.Heads.{first_tag, later_tag, second_tag, only_tag}
+use Rattle.reader.proofs.file.can_stand.Goals as goal
+
+pub returns-then-tag-eq-RULE_TAG : goal.returns-then-tag-eq-RULE_TAG
+unfolding tags_after
+returns-then-tag-eq-RULE_TAG c = rw c.in-1.is (first_tag c.args.tag 1 (2 ∷ []) c.if-tag-eq-RULE_TAG.true)
+
+pub returns-else-tag-eq-RULE_TAG : goal.returns-else-tag-eq-RULE_TAG
+unfolding tags_after
+returns-else-tag-eq-RULE_TAG c = rw c.in-1.is (second_tag c.args.tag 1 2 c.if-tag-eq-RULE_TAG.false)
+
+pub returns-in-2 : goal.returns-in-2
+unfolding tags_after
+returns-in-2 c = rw c.in-2.is (only_tag c.args.tag 3)
+
+pub returns-then-tag-eq-KEEP_TAG : goal.returns-then-tag-eq-KEEP_TAG
+unfolding tags_after
+returns-then-tag-eq-KEEP_TAG c =
+    let tag = c.args.tag in
+    rw c.in-3.is
+    (⊎_elim (λ (is, same). same ∙ first_tag tag 6 (4 ∷ 5 ∷ []) is.true)
+    (λ (isnt, same).
+    same ∙ first_tag tag 4 (5 ∷ []) (eqb-true tag 4 (sym same ∙ c.if-tag-eq-KEEP_TAG.true-raw)) ∙ later_tag tag 6 (4 ∷ 5 ∷ []) isnt.left)
+    c.if-tag-eq-DEFAULT_TAG.branch)
+
+pub returns-else-tag-eq-KEEP_TAG : goal.returns-else-tag-eq-KEEP_TAG
+unfolding tags_after
+returns-else-tag-eq-KEEP_TAG c =
+    let tag = c.args.tag in
+    rw c.in-3.is
+    (⊎_elim (λ (is, same). absurd (eqb-false tag 6 (sym same ∙ c.if-tag-eq-KEEP_TAG.false-raw) is.true))
+    (λ (isnt, same). second_tag tag 4 5 (eqb-false tag 4 (sym same ∙ c.if-tag-eq-KEEP_TAG.false-raw)) ∙ later_tag tag 6 (4 ∷ 5 ∷ []) isnt.left)
+    c.if-tag-eq-DEFAULT_TAG.branch)
+
+pub returns-then-tag-eq-KEEP_TAG-2 : goal.returns-then-tag-eq-KEEP_TAG-2
+unfolding tags_after
+returns-then-tag-eq-KEEP_TAG-2 c = rw c.in-6.is (first_tag c.args.tag 4 (5 ∷ []) c.if-tag-eq-KEEP_TAG-2.true)
+
+pub returns-else-tag-eq-KEEP_TAG-2 : goal.returns-else-tag-eq-KEEP_TAG-2
+unfolding tags_after
+returns-else-tag-eq-KEEP_TAG-2 c = rw c.in-6.is (second_tag c.args.tag 4 5 c.if-tag-eq-KEEP_TAG-2.false)
+
+pub returns-in-4 : goal.returns-in-4
+unfolding tags_after
+returns-in-4 c = rw c.in-4.is (only_tag c.args.tag 5)
+
+pub returns-in_default : goal.returns-in_default
+unfolding tags_after mem
+returns-in_default c =
+    let last = c.args.last in
+    let rest = c.in_default.in_default-own.rest in
+    rw (
+      ne_eqb last 1 rest.0.0.0.0.1,
+      ne_eqb last 2 rest.0.0.0.1,
+      ne_eqb last 3 rest.0.0.1,
+      ne_eqb last 6 rest.0.1,
+      ne_eqb last 4 rest.1,
+    )

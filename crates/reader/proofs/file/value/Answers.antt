@@ -1,0 +1,9 @@
+-- `value` meets its contract: what there is of the part. Assumes nothing.
+use Rattle.reader.proofs.ValuePlaces.{cut_least}
+use borrow.Author.Rules.{rules}
+use Rattle.reader.proofs.file.value.Goals as goal
+
+pub returns : goal.returns
+returns c =
+    let a = c.args in
+    cut_least a.span a.file.now c.least-start.result c.least-size.result c.least-start.ensures c.least-size.ensures

@@ -1,0 +1,26 @@
+use Prim.Native.Nat.{ℕ, ◌+◌, ◌*◌, ◌-◌, ◌≤◌}
+use native.Mathlib.Nat.{add-zero}
+use native.Mathlib.Omega.{arith}
+use mathlib.Core.Path.{◌≡◌, refl}
+use mathlib.Core.List.{List}
+use lib.ListN.{length, take, drop}
+use Rattle.policy.specs.Rule.{Rule}
+use Rattle.deployment.specs.Values.{rule_of}
+use Rattle.deployment.specs.Catalogue.{catalogue_of}
+use Rattle.catalogue.proofs.Rules.{first_count, first_fits}
+use Rattle.lines.proofs.Lines.{Lines, no_lines, one_line, all_lines}
+use Rattle.rule_lines.specs.Text.{rule_text, rules_text}
+use Rattle.rule_lines.proofs.RuleLines.{next_rule}
+use borrow.Author.Rules.{rules}
+use Rattle.rule_lines.proofs.rules.put_rules.Given as goal
+
+-- the rules that are shown
+abbrev pub rules : (file : List ℕ) (count : ℕ) → List Rule
+rules file count = take count (catalogue_of 3 file)
+
+abbrev pub invariant-loop-k : goal.invariant-loop-k
+invariant-loop-k l =
+    (length l.place ≡ length l.initial.place) × Lines rules_text 0 (rules l.file l.count) (rules_text 0 (rules l.file l.count)) l.initial.place l.at l.place l.next l.k
+
+abbrev pub decreases-loop-k : goal.decreases-loop-k
+decreases-loop-k l = l.count - l.k

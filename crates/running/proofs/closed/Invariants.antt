@@ -1,0 +1,12 @@
+use Prim.Native.Nat.{◌<◌, ◌-◌}
+use borrow.Author.Rules.{rules}
+use mathlib.Core.Path.{◌≡◌, ◌∙◌}
+use lib.ListN.{length}
+use Rattle.running.proofs.Slots.{gap, gap_up, gap_closed}
+use Rattle.running.proofs.closed.Given as goal
+
+abbrev pub invariant-loop-k : goal.invariant-loop-k
+invariant-loop-k l = (l.k < l.len) × (length l.a ≡ 1024) × (gap l.k l.len l.a ≡ gap l.at l.len l.initial.a)
+
+abbrev pub decreases-loop-k : goal.decreases-loop-k
+decreases-loop-k l = l.len - l.k

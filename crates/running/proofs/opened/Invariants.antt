@@ -1,0 +1,13 @@
+use Prim.Native.Nat.{suc, ◌≤◌}
+use native.Mathlib.Omega.{arith}
+use borrow.Author.Rules.{rules}
+use mathlib.Core.Path.{◌≡◌, ◌∙◌}
+use lib.ListN.{length, take}
+use Rattle.running.proofs.Slots.{gap, gap_last, gap_down, gap_opened}
+use Rattle.running.proofs.opened.Given as goal
+
+abbrev pub invariant-loop-k : goal.invariant-loop-k
+invariant-loop-k l = (l.at ≤ l.k) × (l.k ≤ l.len) × (length l.a ≡ 1024) × (gap l.k (suc l.len) l.a ≡ take l.len l.initial.a)
+
+abbrev pub decreases-loop-k : goal.decreases-loop-k
+decreases-loop-k l = l.k

@@ -1,0 +1,14 @@
+-- `keep_if_there` meets its contract: a keep list that is there is tested, and an absent one passes. Assumes nothing.
+use borrow.Author.Rules.{rules}
+use Rattle.deployment.specs.FieldValues.{keep_value}
+use Rattle.catalogue.specs.Answers.{checking}
+use Rattle.values.specs.Answers.{given}
+use Rattle.values.proofs.lists.keep_if_there.Goals as goal
+
+pub returns-then-is : goal.returns-then-is
+unfolding given
+returns-then-is c = rw c.if-is.true c.keep_checked.ensures
+
+pub returns-else-is : goal.returns-else-is
+unfolding checking given keep_value
+returns-else-is c = rw c.if-is.false

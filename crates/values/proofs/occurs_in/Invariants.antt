@@ -1,0 +1,19 @@
+use Prim.Native.Nat.{◌≤◌, ◌<◌, ◌-◌}
+use mathlib.Core.Logic.{⊎_elim}
+use borrow.Author.Tests.{ltb-true, ltb-false, eq-eqb, ne_eqb}
+use native.Mathlib.Omega.{arith}
+use mathlib.Core.Path.{◌≡◌, refl, sym, ◌∙◌}
+use lib.ListN.{length, drop}
+use borrow.Author.Rules.{rules}
+use Rattle.policy.specs.Lists.{occurs}
+use Rattle.deployment.specs.Values.{numbers_of}
+use Rattle.catalogue.proofs.SideBySide.{occurs_both, occurs_later, occurs_done, occurs_short}
+use Rattle.values.proofs.occurs_in.Given as goal
+
+abbrev pub invariant-loop-i : goal.invariant-loop-i
+invariant-loop-i l =
+    (l.count ≡ length (numbers_of l.keep)) × (l.top ≡ length (numbers_of l.list)) × (l.i ≤ l.count) × (l.j ≤ l.top)
+    × (occurs (numbers_of l.keep) (numbers_of l.list) ≡ occurs (drop l.i (numbers_of l.keep)) (drop l.j (numbers_of l.list)))
+
+abbrev pub decreases-loop-i : goal.decreases-loop-i
+decreases-loop-i l = l.top - l.j

@@ -1,0 +1,54 @@
+-- `script_checked` meets its contract: its tests are those of the definition, one after another: the length, the type, the commands.
+-- Assumes nothing.
+use Prim.Native.Nat.{◌≤◌}
+use native.Mathlib.Omega.{arith}
+use mathlib.Core.Path.{◌≡◌, sym}
+use mathlib.Core.Bool.{true}
+use lib.ListN.{length}
+use Rattle.policy.specs.Command.{is_type}
+use Rattle.policy.proofs.Tests.{fails, passes}
+use Rattle.deployment.specs.Bytes.{number, part}
+use Rattle.deployment.specs.Values.{script_fits}
+use Rattle.deployment.specs.FieldValues.{script_value}
+use Rattle.deployment.proofs.Tests.{says_script}
+use Rattle.deployment.proofs.Records.{first_byte}
+use Rattle.catalogue.specs.Answers.{checking}
+use Rattle.values.proofs.Scripts.{wrong_type, wrong_command, right_script}
+use borrow.Author.Rules.{rules}
+use Rattle.values.proofs.script_checked.Goals as goal
+use Rattle.values.proofs.script_checked.Goals.{After-shared_slice_known-2-1, Else-not-is_type}
+
+-- after the first test the length is right, so there is a type byte
+long : (c : After-shared_slice_known-2-1) → script_fits (length c.args.value.now) ≡ true
+long c = passes c.script_fits.ensures c.if-not-script_fits.false-raw
+
+typed_at : (c : After-shared_slice_known-2-1) → 1 ≤ length c.args.value.now
+typed_at c =
+    let right = (says_script (length c.args.value.now)).0 (long c) in
+    omega (arith, right.1)
+
+pub returns-then-not-script_fits : goal.returns-then-not-script_fits
+unfolding checking script_value
+returns-then-not-script_fits c = rw (fails c.script_fits.ensures c.if-not-script_fits.true-raw)
+
+-- after the second test there are scripts of the type
+typed : (c : Else-not-is_type) → is_type (number (part 0 1 c.args.value.now)) ≡ true
+typed c =
+    rw (first_byte c.args.value.now (typed_at (goal.at.Else-not-is_type c).After-shared_slice_known-2-1))
+    (passes c.is_type.ensures c.if-not-is_type.false-raw)
+
+pub returns-then-not-is_type : goal.returns-then-not-is_type
+returns-then-not-is_type c =
+    let value = c.args.value.now in
+    sym (wrong_type value (long (goal.at.returns-then-not-is_type c).After-shared_slice_known-2-1)
+    (rw (first_byte value (typed_at (goal.at.returns-then-not-is_type c).After-shared_slice_known-2-1)) (fails c.is_type.ensures c.if-not-is_type.true-raw)))
+
+pub returns-then-not-all_commands : goal.returns-then-not-all_commands
+returns-then-not-all_commands c =
+    sym (wrong_command c.args.value.now (long (goal.at.returns-then-not-all_commands c).After-shared_slice_known-2-1) (typed (goal.at.returns-then-not-all_commands c).Else-not-is_type)
+    (fails c.all_commands.ensures c.if-not-all_commands.true-raw))
+
+pub returns : goal.returns
+returns c =
+    sym (right_script c.args.value.now (long (goal.at.returns c).After-shared_slice_known-2-1) (typed (goal.at.returns c).Else-not-is_type)
+    (passes c.all_commands.ensures c.if-not-all_commands.false-raw))
