@@ -22,7 +22,6 @@ use Rattle.policy.specs.Policy.{most_rules}
 use Rattle.policy.specs.Rule.{Rule}
 use Rattle.policy.specs.Claims.{Keepable}
 use Rattle.policy.specs.declared.Action.{Action}
-use Rattle.policy.specs.declared.Action.TheVariants.{Deny, Permit}
 use Rattle.deployment.specs.Checked.{Checked, good, bad, ◌>>=◌}
 use Rattle.deployment.specs.Bytes.{chunks, joined}
 use Rattle.deployment.specs.Values.{

@@ -3,9 +3,9 @@
 use Prim.Native.Nat.{ℕ, zero, suc, ◌+◌, ◌*◌, ◌/◌, ◌≤◌, ◌<◌}
 use native.Mathlib.Nat.{mul_comm}
 use native.Mathlib.Omega.{arith}
-use mathlib.Core.Path.{◌≡◌, refl, sym, ◌∙◌, ap}
+use mathlib.Core.Path.{◌≡◌, refl, ◌∙◌, ap}
 use mathlib.Core.List.{List, [], ◌∷◌, ◌++◌, map, append_assoc}
-use lib.ListN.{length, take, drop, get_or, length-append, length-drop, length-map, get_or-map}
+use lib.ListN.{length, drop, get_or, length-append, length-drop, length-map, get_or-map}
 use lib.Seq.{take_at, drop_at, drop-drop, take-append-le, drop-append-le}
 use Rattle.policy.specs.declared.Action.{Action}
 use Rattle.policy.specs.declared.Action.TheVariants.{Deny, Permit}

@@ -3,7 +3,7 @@ use mathlib.Core.Path.{refl}
 use Rattle.policy.specs.Lists.{all, pick, mem, contains, before, after, without, missing, same}
 use Rattle.policy.specs.Rule.{lies, matches, hits, says}
 use Rattle.policy.specs.Policy.{decide_from, decide, same_action, matching}
-use Rattle.policy.specs.Command.{rule_at, lifted, placed, moved, needs, within, step, fault_number, coded}
+use Rattle.policy.specs.Command.{rule_at, lifted, placed, moved, needs, within, step, coded}
 use Rattle.policy.specs.Replay.{replay_from, replay, lists}
 use Rattle.policy.specs.AppendDelete.{kept_run, plan_one}
 use Rattle.policy.specs.InsertDeleteMove.{own_choice, kept_two, inserted, reached, move_up, already, raised, left, take_one}

@@ -1,10 +1,9 @@
 -- The front of the running list in the first stage, and how rules join it: the running list is the front, then the rest. A rule put
 -- right behind the front, where the target's rules taken so far stand, has the target's support, and every other rule keeps the
 -- support that it had. Assumes nothing.
-use Prim.Native.Nat.{ℕ, ◌+◌}
+use Prim.Native.Nat.{ℕ}
 use native.Mathlib.Omega.{arith}
 use mathlib.Core.Path.{◌≡◌, refl, sym, ◌∙◌, ap}
-use mathlib.Core.Bool.{not}
 use mathlib.Core.Logic.{inl, inr, ⊎_elim, ⊎_map, ◌≢◌}
 use mathlib.Core.List.{List, [], ◌∷◌, ◌++◌, map, map-append, append_assoc}
 use mathlib.Core.List.Memᴰ
@@ -13,8 +12,8 @@ use mathlib.Core.List.{Sublistᴰ}
 use borrow.Author.Tests.{eqb-true, eqb-false}
 use lib.Dec.{eqb}
 use lib.Seq.{append_snoc}
-use Rattle.policy.specs.Lists.{after, without}
-use Rattle.policy.specs.InsertDeleteMove.{Standing, settled, waiting, rule_of, inserted}
+use Rattle.policy.specs.Lists.{without}
+use Rattle.policy.specs.InsertDeleteMove.{Standing, settled, waiting, rule_of}
 use Rattle.policy.specs.Properties.{In, Distinct, Within, Precedes, SupportedBy, Ordered}
 use Rattle.policy.specs.Claims.{Admitted}
 use Rattle.policy.proofs.Tests.{by_test, not_first, not_second}
