@@ -4,7 +4,6 @@ use Prim.Native.Nat.{ℕ, suc, ◌+◌, ◌-◌, ◌≤◌, ◌<◌}
 use native.Mathlib.Omega.{arith}
 use borrow.Author.Rules.{rules}
 use mathlib.Core.Path.{◌≡◌, refl, sym, ◌∙◌, ap}
-use mathlib.Core.Logic.{⊎_elim}
 use mathlib.Core.List.{List}
 use lib.ListN.{length, take, drop, get_or, set, length-set}
 use lib.Seq.{set_out}
@@ -12,7 +11,7 @@ use Rattle.places.specs.Places.{renumbered}
 use Rattle.running.proofs.Edits.{view_count, view_fits}
 use Rattle.places.proofs.Numbering.{numbers_one, numbers_none}
 use Rattle.places.proofs.Places.numbered.Goals as goal
-use Rattle.places.proofs.Places.numbered.Goals.{After-count-len, In-loop-k, Joined-at-lt-MOST_RULES, Start}
+use Rattle.places.proofs.Places.numbered.Goals.{After-count-len, In-loop-k, Joined-at-lt-MOST_RULES, Start, then-at-lt-MOST_RULES, else-at-lt-MOST_RULES}
 
 pub loop-k-init : goal.loop-k-init
 loop-k-init c = (c.well_formed.0.1.1.0.1.0.1, refl)
@@ -44,7 +43,10 @@ stored : (c : Joined-at-lt-MOST_RULES) →
     c.if-at-lt-MOST_RULES.of
     ≡ set c.loop-k.of (get_or c.args.list.rules c.loop-k.k 0) (c.loop-k.k + 1)
 stored c =
-    ⊎_elim (λ w. w.1) (λ w. w.1 ∙ sym (set_out c.loop-k.of _ _ (omega (arith, w.0.false, c.loop-k.invariant.0)))) c.if-at-lt-MOST_RULES.branch
+    elim c.if-at-lt-MOST_RULES.branch [
+        then-at-lt-MOST_RULES w ↦ w.of-is
+      | else-at-lt-MOST_RULES w ↦ w.of-is ∙ sym (set_out c.loop-k.of _ _ (omega (arith, w.if-at-lt-MOST_RULES.false, c.loop-k.invariant.0)))
+    ]
 
 pub loop-k-preserved : goal.loop-k-preserved
 loop-k-preserved c =

@@ -5,7 +5,6 @@ use native.Mathlib.Omega.{arith}
 use mathlib.Core.Path.{◌≡◌, sym, ◌∙◌, ap, ap₂}
 use mathlib.Core.Bool.{true, not}
 use mathlib.Core.List.{List}
-use mathlib.Core.Logic.{⊎_elim}
 use borrow.Author.Tests.{not-true, not-false}
 use lib.Dec.{ltb}
 use Rattle.policy.specs.Lists.{all, differ}
@@ -14,7 +13,7 @@ use Rattle.running.proofs.Edits.{view_count, view_fits}
 use Rattle.running.proofs.Names.{all_wider, names_outside, names_twice, names_once}
 use borrow.Author.Rules.{rules}
 use Rattle.running.proofs.Running.naming.Goals as goal
-use Rattle.running.proofs.Running.naming.Goals.{After-count-len, After-outside, After-twice, Else-outside, Joined-size-lt-MOST_RULES}
+use Rattle.running.proofs.Running.naming.Goals.{After-count-len, After-outside, After-twice, Else-outside, Joined-size-lt-MOST_RULES, then-size-lt-MOST_RULES, else-size-lt-MOST_RULES}
 
 fits : (c : After-count-len) → c.count-len.result ≤ 1024
 fits c =
@@ -24,7 +23,10 @@ pub outside-requires : goal.outside-requires
 outside-requires c = fits (goal.at.outside-requires c).After-count-len
 
 top_is : (c : Joined-size-lt-MOST_RULES) → c.if-size-lt-MOST_RULES.top ≡ min c.args.size 1024
-top_is c = ⊎_elim (λ w. omega (arith, w.0.true, w.1)) (λ w. omega (arith, w.0.false, w.1)) c.if-size-lt-MOST_RULES.branch
+top_is c = elim c.if-size-lt-MOST_RULES.branch [
+    then-size-lt-MOST_RULES w ↦ omega (arith, w.if-size-lt-MOST_RULES.true, w.top-is)
+  | else-size-lt-MOST_RULES w ↦ omega (arith, w.if-size-lt-MOST_RULES.false, w.top-is)
+  ]
 
 -- what the first test says, of the list that is shown
 outside_is : (c : After-outside) →
