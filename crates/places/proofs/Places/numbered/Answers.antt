@@ -26,6 +26,13 @@ fits c = omega (arith, c.count-len.ensures, view_fits c.args.list, slots (goal.a
 below : (c : In-loop-k) → c.loop-k.k < 1024
 below c = omega (arith, c.loop-k-test.true, fits (goal.at.In-loop-k c).After-count-len)
 
+pub offset_bounds-rules-k : goal.offset_bounds-rules-k
+offset_bounds-rules-k c =
+    record { fits = omega (arith, c.loop-k-test.true, fits (goal.at.offset_bounds-rules-k c).After-count-len) }
+
+pub bounds-rules-k : goal.bounds-rules-k
+bounds-rules-k c = omega (arith, c.loop-k-test.true, fits (goal.at.bounds-rules-k c).After-count-len)
+
 pub overflow_add-of : goal.overflow_add-of
 overflow_add-of c = record { fits = omega (arith, below (goal.at.overflow_add-of c).In-loop-k) }
 
