@@ -5,6 +5,10 @@ use Rattle.console.specs.Makers.{number_before, second_said}
 use borrow.Author.Rules.{rules}
 use Rattle.console.proofs.second_said.Goals as goal
 
+pub returns-in-A : goal.returns-in-A
+unfolding second_said
+returns-in-A c = search rules
+
 pub returns-then-i-j : goal.returns-then-i-j
 unfolding second_said number_before
 returns-then-i-j c = rw (c.in-B.is, lt-ltb _ _ c.if-i-j.true) (add-one c.args.j)
