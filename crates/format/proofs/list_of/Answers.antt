@@ -2,14 +2,13 @@
 use Prim.Native.Nat.{◌≤◌, ◌-◌}
 use native.Mathlib.Omega.{arith}
 use mathlib.Core.Path.{◌≡◌, refl, ◌∙◌, ap}
-use mathlib.Core.Logic.{⊎_elim}
 use lib.ListN.{length, take, length-set}
 use borrow.Author.Rules.{rules}
 use Rattle.running.specs.Running.{view}
 use Rattle.deployment.specs.Values.{numbers_of}
 use Rattle.format.proofs.Copying.{copied_further, cut_short}
 use Rattle.format.proofs.list_of.Goals as goal
-use Rattle.format.proofs.list_of.Goals.{Joined-count-lt-MOST_RULES}
+use Rattle.format.proofs.list_of.Goals.{Joined-count-lt-MOST_RULES, then-count-lt-MOST_RULES, else-count-lt-MOST_RULES}
 
 -- the shorter of the two lengths
 shortest : (c : Joined-count-lt-MOST_RULES)
@@ -18,10 +17,10 @@ shortest : (c : Joined-count-lt-MOST_RULES)
 shortest c =
     let numbers = numbers_of c.args.value.now in
     let counted = c.listed-count.ensures in
-    ⊎_elim
-    (λ w. (omega arith, omega arith, rw (w.1 ∙ counted) (cut_short numbers 1024 (omega arith))))
-    (λ w. (omega arith, omega arith, ap (λ n. take n numbers) w.1))
-    c.if-count-lt-MOST_RULES.branch
+    elim c.if-count-lt-MOST_RULES.branch [
+        then-count-lt-MOST_RULES w ↦ (omega arith, omega arith, rw (w.top-is ∙ counted) (cut_short numbers 1024 (omega arith)))
+      | else-count-lt-MOST_RULES w ↦ (omega arith, omega arith, ap (λ n. take n numbers) w.top-is)
+    ]
 
 pub loop-k-init : goal.loop-k-init
 loop-k-init c =
