@@ -10,11 +10,9 @@ use Rattle.flows.proofs.flow_at.Goals as goal
 
 pub returns : goal.returns
 returns c =
-    let source = source-port.before in
-    let start = source.before.before.before.before in
-    let k = start.args.k in
-    let flows = start.args.flows.now in
-    rw (source.four-at.ensures, source-port.two_at.ensures, c.four_at-2.ensures, c.two_at-2.ensures)
+    let k = c.args.k in
+    let flows = c.args.flows.now in
+    rw (c.four_at.ensures, c.two_at.ensures, c.four_at-2.ensures, c.two_at-2.ensures)
     (flow_read _ (omega arith) ∙ ap flow_of (part_between (13 * k) 13 flows))
 
 pub overflow_mul-start : goal.overflow_mul-start
