@@ -3,7 +3,7 @@
 use Prim.Native.Nat.{ℕ, ◌≤◌, ◌<◌}
 use native.Mathlib.Omega.{arith}
 use mathlib.Core.Path.{◌≡◌}
-use mathlib.Core.Bool.{true}
+use mathlib.Core.Bool.{true, false}
 use borrow.Author.Tests.{eq-eqb, ne_eqb, eqb-false}
 use lib.Dec.{eqb}
 use Rattle.policy.specs.Lists.{mem}
@@ -24,46 +24,37 @@ in_second code low high =
     (λ g. rw (f, g, eq-eqb 5 code (omega (arith, eqb-false 3 code f, eqb-false 4 code g)))))
 
 pub returns-in-1-code : goal.returns-in-1-code
-returns-in-1-code c = rw c.in-1.is (in_first c.args.code c.in_default-code.if-code-lt1-own.false c.in-1-code.if-code-lt3-own.true)
+returns-in-1-code c = rw c.in-1.is (in_first c.args.code (omega arith) (omega arith))
 
 pub returns-in_default-code : goal.returns-in_default-code
 unfolding codes_of mem
 returns-in_default-code c =
     let code = c.args.code in
-    rw c.in-1.is (simp (ne_eqb 1 code (λ e. omega (arith, c.in_default-code.if-code-lt1-own.true)), ne_eqb 2 code (λ e. omega (arith, c.in_default-code.if-code-lt1-own.true))))
+    rw c.in-1.is (simp (ne_eqb 1 code (λ e. omega arith), ne_eqb 2 code (λ e. omega arith)))
 
 pub returns-in_default-code-3 : goal.returns-in_default-code-3
 unfolding codes_of mem
 returns-in_default-code-3 c =
     let code = c.args.code in
-    rw c.in-1.is
-    (simp (ne_eqb 1 code (λ e. omega (arith, c.in_default-code.if-code-lt3-own.false)), ne_eqb 2 code (λ e. omega (arith, c.in_default-code.if-code-lt3-own.false))))
+    rw c.in-1.is (simp (ne_eqb 1 code (λ e. omega arith), ne_eqb 2 code (λ e. omega arith)))
 
 pub returns-in-3 : goal.returns-in-3
-returns-in-3 c = rw c.in-2.is (in_second c.args.code c.in_default-code-2.if-code-lt3-2-own.false c.in-3.if-code-lt6-own.true)
+returns-in-3 c = rw c.in-2.is (in_second c.args.code (omega arith) (omega arith))
 
 pub returns-in_default-code-2 : goal.returns-in_default-code-2
 unfolding codes_of mem
 returns-in_default-code-2 c =
     let code = c.args.code in
     rw c.in-2.is
-    (simp (
-      ne_eqb 3 code (λ e. omega (arith, c.in_default-code-2.if-code-lt3-2-own.true)),
-      ne_eqb 4 code (λ e. omega (arith, c.in_default-code-2.if-code-lt3-2-own.true)),
-      ne_eqb 5 code (λ e. omega (arith, c.in_default-code-2.if-code-lt3-2-own.true)),
-    ))
+    (simp (ne_eqb 3 code (λ e. omega arith), ne_eqb 4 code (λ e. omega arith), ne_eqb 5 code (λ e. omega arith)))
 
 pub returns-in_default-code-2-2 : goal.returns-in_default-code-2-2
 unfolding codes_of mem
 returns-in_default-code-2-2 c =
     let code = c.args.code in
     rw c.in-2.is
-    (simp (
-      ne_eqb 3 code (λ e. omega (arith, c.in_default-code-2.if-code-lt6-own.false)),
-      ne_eqb 4 code (λ e. omega (arith, c.in_default-code-2.if-code-lt6-own.false)),
-      ne_eqb 5 code (λ e. omega (arith, c.in_default-code-2.if-code-lt6-own.false)),
-    ))
+    (simp (ne_eqb 3 code (λ e. omega arith), ne_eqb 4 code (λ e. omega arith), ne_eqb 5 code (λ e. omega arith)))
 
 pub returns-in_default : goal.returns-in_default
 unfolding codes_of mem
-returns-in_default c = simp (ne_eqb _ 1 c.in_default.in_default-own.rest.0.1, ne_eqb _ 2 c.in_default.in_default-own.rest.1)
+returns-in_default c = simp (ne_eqb c.args.kind 1 (λ e. omega arith), ne_eqb c.args.kind 2 (λ e. omega arith))
