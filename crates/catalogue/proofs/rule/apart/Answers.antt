@@ -23,10 +23,9 @@ use Rattle.catalogue.proofs.Marking.{
   marked_more,
   apart_none,
   apart_more,
+}
 use Rattle.catalogue.proofs.rule.apart.Goals as goal
 use Rattle.catalogue.proofs.rule.apart.Goals.{After-known_if, After-mark_of-mark, After-record_at-rule, In-loop-k}
-
-}
 
 -- in a turn the k-th record is there
 there : (c : In-loop-k)

@@ -1,7 +1,6 @@
 -- `rule_fits_lem` meets its contract: its tests are those of the definition, one after another. Assumes nothing.
 use mathlib.Core.Path.{◌≡◌, ◌∙◌}
 use mathlib.Core.Bool.{◌&&◌}
-use mathlib.Core.Logic.{⊎_elim}
 use lib.Dec.{leb}
 use lib.ListN.{get_or}
 use native.Mathlib.Omega.{arith}
@@ -13,6 +12,7 @@ use Rattle.catalogue.proofs.Rules.{rising_protocol}
 use borrow.Author.Rules.{rules}
 use Rattle.catalogue.proofs.rule.rule_fits.Goals as goal
 use Rattle.catalogue.proofs.rule.rule_fits.Goals.{Joined-rises_four, Joined-rises_two, Joined-rule, Joined-rule-le1}
+use Rattle.catalogue.proofs.rule.rule_fits.Goals.{then-rule-le1, else-rule-le1, then-rule, else-rule, then-rises_four, else-rises_four, then-rises_two, else-rises_two}
 
 -- the tests so far, where they meet the next one
 first_two : (c : Joined-rule-le1)
@@ -21,17 +21,20 @@ first_two : (c : Joined-rule-le1)
 first_two c =
     let rule = c.args.rule.now in
     rw (first_byte rule (omega arith), rising_protocol rule (omega arith))
-    (⊎_elim
-    (λ w. rw (le-leb (get_or rule 0 0) 1 w.0.true) w.3)
-    (λ w. rw (lt-leb (get_or rule 0 0) 1 w.0.false) (w.1 ∙ lt-leb (get_or rule 0 0) 1 w.0.false))
-    c.if-rule-le1.branch)
+    (elim c.if-rule-le1.branch [
+        then-rule-le1 w ↦ rw (le-leb (get_or rule 0 0) 1 w.if-rule-le1.true) w.value-is
+      | else-rule-le1 w ↦ rw (lt-leb (get_or rule 0 0) 1 w.if-rule-le1.false) (w.value-is ∙ lt-leb (get_or rule 0 0) 1 w.if-rule-le1.false)
+    ])
 
 first_three : (c : Joined-rule)
     → let rule = c.args.rule.now in
     c.if-rule.value ≡ (leb (number (part 0 1 rule)) 1 && rising (range_at 1 1 rule) && rising (range_at 3 4 rule))
 first_three c =
     rw (← first_two (goal.at.Joined-rule c).Joined-rule-le1)
-    (⊎_elim (λ w. rw w.0.true (w.2 ∙ w.1.ensures)) (λ w. rw w.0.false (w.1 ∙ w.0.false)) c.if-rule.branch)
+    (elim c.if-rule.branch [
+        then-rule w ↦ rw w.if-rule.true (w.value-is ∙ w.rises_four.ensures)
+      | else-rule w ↦ rw w.if-rule.false (w.value-is ∙ w.if-rule.false)
+    ])
 
 first_four : (c : Joined-rises_four)
     → let rule = c.args.rule.now in
@@ -39,7 +42,10 @@ first_four : (c : Joined-rises_four)
     ≡ (leb (number (part 0 1 rule)) 1 && rising (range_at 1 1 rule) && rising (range_at 3 4 rule) && rising (range_at 11 2 rule))
 first_four c =
     rw (← first_three (goal.at.Joined-rises_four c).Joined-rule)
-    (⊎_elim (λ w. rw w.0.true (w.2 ∙ w.1.ensures)) (λ w. rw w.0.false (w.1 ∙ w.0.false)) c.if-rises_four.branch)
+    (elim c.if-rises_four.branch [
+        then-rises_four w ↦ rw w.if-rises_four.true (w.value-is ∙ w.rises_two.ensures)
+      | else-rises_four w ↦ rw w.if-rises_four.false (w.value-is ∙ w.if-rises_four.false)
+    ])
 
 first_five : (c : Joined-rises_two)
     → let rule = c.args.rule.now in
@@ -48,7 +54,10 @@ first_five : (c : Joined-rises_two)
     && rising (range_at 15 4 rule))
 first_five c =
     rw (← first_four (goal.at.Joined-rises_two c).Joined-rises_four)
-    (⊎_elim (λ w. rw w.0.true (w.2 ∙ w.1.ensures)) (λ w. rw w.0.false (w.1 ∙ w.0.false)) c.if-rises_two.branch)
+    (elim c.if-rises_two.branch [
+        then-rises_two w ↦ rw w.if-rises_two.true (w.value-is ∙ w.rises_four-then-rises_two.ensures)
+      | else-rises_two w ↦ rw w.if-rises_two.false (w.value-is ∙ w.if-rises_two.false)
+    ])
 
 pub returns-then-rises_four-2 : goal.returns-then-rises_four-2
 unfolding rule_fits
