@@ -5,7 +5,6 @@ use Prim.Native.Nat.{suc, ◌+◌, ◌≤◌, ◌-◌}
 use native.Mathlib.Omega.{arith}
 use mathlib.Core.Path.{◌≡◌, refl, sym, ◌∙◌, ap₂}
 use mathlib.Core.Bool.{◌||◌}
-use mathlib.Core.Logic.{⊎_elim}
 use lib.ListN.{length, drop, get_or}
 use borrow.Author.Rules.{rules}
 use borrow.Author.Tests.{not-true, not-false, eqb-true, eqb-false}
@@ -16,7 +15,13 @@ use Rattle.ordering.specs.Fronts.{stands, front, is_at}
 use Rattle.ordering.proofs.Support.{front_fits, ahead_inside, ahead_later, ahead_stuck, supported_fronts, supported_next}
 use Rattle.ordering.proofs.Search.{failing_later, failing_here, failing_none, none_all}
 use Rattle.ordering.proofs.first_unsupported.Goals as goal
-use Rattle.ordering.proofs.first_unsupported.Goals.{After-advanced-next_b}
+use Rattle.ordering.proofs.first_unsupported.Goals.{
+  After-advanced-next_b,
+  else-next_a-a-via-then-next_a-a+else-next_b-b,
+  else-next_a-a-via-else-next_a-a,
+  else-places-test,
+  then-places-test+then-loop-next_a-test+then-next_a-a+then-next_b-b,
+}
 
 pub places-init : goal.places-init
 unfolding first_unsupported
@@ -51,10 +56,10 @@ loop-next_a-smaller c =
     let fits = front_fits test (numbers_of args.initial.now) in
     let fits' = front_fits test (numbers_of args.target.now) in
     let (la, fa, lb, fb) = ahead (goal.at.loop-next_a-smaller c).After-advanced-next_b in
-    ⊎_elim
-    (λ w. let moved = eqb-false c.advanced-next_b.result c.loop-next_a.b w.1.false in omega arith)
-    (λ w. let moved = w.false in omega arith)
-    c.else-next_a-a.branch
+    elim c.else-next_a-a.branch [
+        else-next_a-a-via-then-next_a-a+else-next_b-b w ↦ let moved = w.if-next_b-b.false in omega arith
+      | else-next_a-a-via-else-next_a-a w ↦ let moved = w.if-next_a-a.false in omega arith
+    ]
 
 pub loop-next_a-preserved : goal.loop-next_a-preserved
 loop-next_a-preserved c = let (la, fa, lb, fb) = ahead (goal.at.loop-next_a-preserved c).After-advanced-next_b in (fa, fb)
@@ -89,16 +94,17 @@ returns c =
     let initial = numbers_of c.args.initial.now in
     let target = numbers_of c.args.target.now in
     let test = stands c.args.places.now k in
-    ⊎_elim
-    (λ w. never (none_all (supported initial target l) 1 l (c.places.invariant.1 ∙ failing_none (supported initial target l) (suc k) l k w.false)) c.requires.1)
-    (λ w.
-    let inside = w.0.true in
-    let a = ahead_stuck test w.2.a initial w.2.invariant.0 (sym w.5.ensures ∙ w.7.true) in
-    let b = ahead_stuck test w.2.b target w.2.invariant.1 (sym w.6.ensures ∙ eqb-true w.6.result w.2.b w.8.true) in
-    c.places.invariant.1
-    ∙ failing_here (supported initial target l) l k inside
-    (sym (supported_fronts initial target c.args.places.now l c.requires.0 k inside)
-    ∙ ap₂ (λ m n. is_at (get_or l k 0) m initial || is_at (get_or l k 0) n target) (sym a) (sym b)
-    ∙ sym w.3.ensures
-    ∙ not-true w.3.result w.4.true))
-    c.places-test.branch
+    elim c.places-test.branch [
+        else-places-test w ↦
+          never (none_all (supported initial target l) 1 l (c.places.invariant.1 ∙ failing_none (supported initial target l) (suc k) l k w.places-test.false)) c.requires.1
+      | then-places-test+then-loop-next_a-test+then-next_a-a+then-next_b-b w ↦
+          let inside = w.places-test.true in
+          let a = ahead_stuck test w.loop-next_a.a initial w.loop-next_a.invariant.0 (sym w.advanced-next_a.ensures ∙ w.if-next_a-a.true) in
+          let b = ahead_stuck test w.loop-next_a.b target w.loop-next_a.invariant.1 (sym w.advanced-next_b.ensures ∙ w.if-next_b-b.true) in
+          c.places.invariant.1
+          ∙ failing_here (supported initial target l) l k inside
+          (sym (supported_fronts initial target c.args.places.now l c.requires.0 k inside)
+          ∙ ap₂ (λ m n. is_at (get_or l k 0) m initial || is_at (get_or l k 0) n target) (sym a) (sym b)
+          ∙ sym w.is_next.ensures
+          ∙ w.loop-next_a-test.true)
+    ]

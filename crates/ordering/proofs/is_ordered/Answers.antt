@@ -4,10 +4,8 @@ use Prim.Native.Nat.{◌≤◌, ◌-◌}
 use native.Mathlib.Omega.{arith}
 use mathlib.Core.Path.{◌≡◌, refl, sym, ◌∙◌, ap₂}
 use mathlib.Core.Bool.{Bool, true, ◌||◌}
-use mathlib.Core.Logic.{⊎_elim}
 use lib.ListN.{length, drop, get_or}
 use borrow.Author.Rules.{rules}
-use borrow.Author.Tests.{not-true, not-false}
 use Rattle.policy.specs.Lists.{all}
 use Rattle.policy.specs.Judge.{supported, ordered}
 use Rattle.policy.proofs.Tests.{or_left, or_right}
@@ -17,7 +15,11 @@ use Rattle.ordering.proofs.Support.{front_start, supported_fronts}
 use Rattle.ordering.proofs.Growth.{front_after}
 use Rattle.ordering.proofs.Search.{all_one, all_not, all_none}
 use Rattle.ordering.proofs.is_ordered.Goals as goal
-use Rattle.ordering.proofs.is_ordered.Goals.{After-is_at-by_target}
+use Rattle.ordering.proofs.is_ordered.Goals.{
+  After-is_at-by_target,
+  else-not-by_initial-via-then-not-by_initial+else-not-by_target,
+  else-not-by_initial-via-else-not-by_initial,
+}
 
 pub loop-k-init : goal.loop-k-init
 unfolding ordered
@@ -41,7 +43,7 @@ pub returns-then-not-by_target : goal.returns-then-not-by_target
 returns-then-not-by_target c =
     let a = c.args in
     let test = supported (numbers_of a.initial.now) (numbers_of a.target.now) a.list.now in
-    let neither = ap₂ (λ (x y : Bool). x || y) (not-true c.is_at-by_initial.result c.else-not-by_initial.true-raw) (not-true c.is_at-by_target.result c.if-not-by_target.true-raw) in
+    let neither = ap₂ (λ (x y : Bool). x || y) c.if-not-by_initial.true c.if-not-by_target.true in
     sym (c.loop-k.invariant.3
     ∙ all_not test a.list.now c.loop-k.k c.loop-k-test.true (sym (tested (goal.at.returns-then-not-by_target c).After-is_at-by_target) ∙ neither))
 
@@ -63,10 +65,10 @@ loop-k-preserved c =
     let a = c.args in
     let test = supported (numbers_of a.initial.now) (numbers_of a.target.now) a.list.now in
     let one : (c.is_at-by_initial.result || c.is_at-by_target.result) ≡ true =
-    ⊎_elim
-    (λ w. or_right c.is_at-by_initial.result (not-false c.is_at-by_target.result w.1.false))
-    (λ w. or_left c.is_at-by_target.result (not-false c.is_at-by_initial.result w.false))
-    c.else-not-by_initial.branch in (
+    elim c.else-not-by_initial.branch [
+        else-not-by_initial-via-then-not-by_initial+else-not-by_target w ↦ or_right c.is_at-by_initial.result w.if-not-by_target.false
+      | else-not-by_initial-via-else-not-by_initial w ↦ or_left c.is_at-by_target.result w.if-not-by_initial.false
+    ] in (
       omega arith,
       c.grown-a.ensures,
       c.grown-b.ensures,
