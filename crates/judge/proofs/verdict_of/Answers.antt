@@ -20,7 +20,7 @@ use Rattle.replay.proofs.Steps.{step_failed, step_passed, step_sound}
 use Rattle.replay.proofs.Scripts.{never_wrong}
 use Rattle.judge.proofs.Verdicts.{rest, verdict_rest, passes_on, breaks_off, comes_to, judging, starts}
 use Rattle.judge.proofs.verdict_of.Goals as goal
-use Rattle.judge.proofs.verdict_of.Goals.{After-ends_at, After-start-state, After-state-1, In-Is-2, In-loop-k}
+use Rattle.judge.proofs.verdict_of.Goals.{After-ends_at, After-start-state, After-state-1, In-loop-k}
 
 -- the first list is the initial policy
 started : (c : After-start-state)
@@ -49,12 +49,6 @@ inside : (c : In-loop-k)
     → c.loop-k.k < command_count c.args.script.now
 inside c = omega (arith, c.loop-k-test.true, c.commands-count.ensures)
 
--- the k-th command
-decodes : (c : In-Is-2)
-    → Is c.in-Is.c
-    ≡ decoded (command_at c.args.script.now c.loop-k.k)
-decodes c = sym c.in-Is.is ∙ c.command_at.ensures
-
 pub returns-in_default : goal.returns-in_default
 returns-in_default c =
     absurd (never_wrong c.args.script.now c.requires.3 c.loop-k.k (inside (goal.at.returns-in_default c).In-loop-k) (sym c.in_default.is ∙ c.command_at.ensures))
@@ -63,7 +57,7 @@ pub returns-in-Failed : goal.returns-in-Failed
 returns-in-Failed c =
     let l = view c.loop-k.state.list in
     breaks_off (numbers_of c.args.initial.now) (numbers_of c.args.target.now) c.args.size c.args.script.now c.requires.3
-    c.loop-k.found c.loop-k.k l c.loop-k.invariant.2 _ (inside (goal.at.returns-in-Failed c).In-loop-k) (decodes (goal.at.returns-in-Failed c).In-Is-2) _
+    c.loop-k.found c.loop-k.k l c.loop-k.invariant.2 _ (inside (goal.at.returns-in-Failed c).In-loop-k) (sym c.in-Is.is ∙ c.command_at.ensures) _
     (step_failed c.args.size l c.loop-k.state.places.of c.loop-k.invariant.1 _ c.step-s.result c.step-s.ensures _ c.in-Failed.is)
 
 -- the state after a command that passes
@@ -88,7 +82,7 @@ loop-k-preserved c =
       next_sound (goal.at.loop-k-preserved c).After-state-1,
       rw c.note_state-found-in-loop-k.ensures
           (passes_on (numbers_of c.args.initial.now) (numbers_of c.args.target.now) c.args.size c.args.script.now c.requires.3
-          c.loop-k.found c.loop-k.k l c.loop-k.invariant.2 _ (inside (goal.at.loop-k-preserved c).In-loop-k) (decodes (goal.at.loop-k-preserved c).In-Is-2) _
+          c.loop-k.found c.loop-k.k l c.loop-k.invariant.2 _ (inside (goal.at.loop-k-preserved c).In-loop-k) (sym c.in-Is.is ∙ c.command_at.ensures) _
           (step_passed c.args.size l c.loop-k.state.places.of c.loop-k.invariant.1 _ c.step-s.result c.step-s.ensures
           c.in_default-refusal.is)),
     )
