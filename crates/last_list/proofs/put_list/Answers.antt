@@ -34,6 +34,9 @@ loop-k-init c =
 slot : (c : In-loop-k) → c.loop-k.k < 1024
 slot c = omega (arith, c.loop-k-test.true, short (goal.at.In-loop-k c).After-count-count)
 
+pub bounds-rules-k : goal.bounds-rules-k
+bounds-rules-k c = omega (arith, c.loop-k-test.true, short (goal.at.bounds-rules-k c).After-count-count)
+
 pub overflow_mul-k : goal.overflow_mul-k
 overflow_mul-k c = omega (arith, slot (goal.at.overflow_mul-k c).In-loop-k)
 
