@@ -2,12 +2,12 @@
 -- the whole. The measure is the number of rules left. Assumes nothing.
 use Prim.Native.Nat.{◌-◌, ◌≤◌, ◌<◌}
 use mathlib.Core.Path.{◌≡◌, sym, ◌∙◌}
-use mathlib.Core.Logic.{⊎_elim}
 use native.Mathlib.Omega.{arith}
 use borrow.Author.Rules.{rules}
 use lib.ListN.{length}
 use Rattle.deployment.specs.Values.{numbers_of}
 use Rattle.append_delete.proofs.DeletesAppends.{Found, found_none, found_one, found_another, found_enough, found_all}
+use Rattle.append_delete.proofs.kept_run.Goals.{then-kept-wanted+then-number_at, then-kept-wanted+else-number_at, else-kept-wanted}
 use Rattle.append_delete.proofs.kept_run.Goals as goal
 
 pub loop-i-init : goal.loop-i-init
@@ -23,12 +23,17 @@ loop-i-preserved c =
       omega arith,
       inv.1,
       inv.2,
-      ⊎_elim
-          (λ w. rw w.4 (found_one _ _ k i inv.3 more (omega arith) (sym w.1.ensures ∙ w.3.true ∙ w.2.ensures)))
-          (⊎_elim
-          (λ w. rw w.4 (found_another _ _ k i inv.3 more (omega arith) (λ e. w.3.false (w.1.ensures ∙ e ∙ sym w.2.ensures))))
-          (λ w. rw w.1 (found_enough _ _ k i inv.3 more (omega arith))))
-          c.if-kept-wanted.branch,
+      elim c.if-kept-wanted.branch [
+        then-kept-wanted+then-number_at w ↦
+          rw w.kept-is
+          (found_one _ _ k i inv.3 more (omega arith)
+          (sym w.number_at.ensures ∙ w.if-number_at.true ∙ w.number_at-then-kept-wanted.ensures))
+        | then-kept-wanted+else-number_at w ↦
+          rw w.kept-is
+          (found_another _ _ k i inv.3 more (omega arith)
+          (λ e. w.if-number_at.false (w.number_at.ensures ∙ e ∙ sym w.number_at-then-kept-wanted.ensures)))
+        | else-kept-wanted w ↦ rw w.kept-is (found_enough _ _ k i inv.3 more (omega arith))
+      ],
     )
 
 pub returns : goal.returns

@@ -2,7 +2,6 @@
 -- Assumes nothing.
 use Prim.Native.Nat.{◌-◌, ◌≤◌, ◌<◌}
 use mathlib.Core.Path.{◌≡◌, refl}
-use mathlib.Core.Logic.{⊎_elim}
 use native.Mathlib.Omega.{arith}
 use borrow.Author.Rules.{rules}
 use lib.ListN.{length, take, length-set}
@@ -10,6 +9,7 @@ use Rattle.deployment.specs.Values.{numbers_of}
 use Rattle.plans.specs.Marked.{Marked}
 use Rattle.plans.proofs.Marked.{marks_none}
 use Rattle.append_delete.proofs.DeletesAppends.{marks_one, marks_out}
+use Rattle.append_delete.proofs.marked.Goals.{then-r-lt-MOST_RULES, else-r-lt-MOST_RULES}
 use Rattle.append_delete.proofs.marked.Goals as goal
 
 pub loop-i-init : goal.loop-i-init
@@ -23,15 +23,16 @@ loop-i-preserved c =
     let marks = c.loop-i.marks in
     let is = c.number_at-r.ensures in
     let more : i < length l = omega arith in
-    ⊎_elim
-    (λ w. rw w.1 (
-      omega arith,
-      inv.1,
-      simp length-set inv.2,
-      rw is (marks_one marks l i inv.3 more inv.2 (omega arith)),
-    ))
-    (λ w. rw w.1 (omega arith, inv.1, inv.2, marks_out marks l i inv.3 more (omega arith)))
-    c.if-r-lt-MOST_RULES.branch
+    elim c.if-r-lt-MOST_RULES.branch [
+      then-r-lt-MOST_RULES w ↦
+        rw w.marks-is (
+          omega arith,
+          inv.1,
+          simp length-set inv.2,
+          rw is (marks_one marks l i inv.3 more inv.2 (omega arith)),
+        )
+      | else-r-lt-MOST_RULES w ↦ rw w.marks-is (omega arith, inv.1, inv.2, marks_out marks l i inv.3 more (omega arith))
+    ]
 
 pub returns : goal.returns
 returns c =

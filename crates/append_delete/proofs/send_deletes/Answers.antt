@@ -1,12 +1,11 @@
 -- `send_deletes` meets its contract. The invariant: the last k rules are gone through, and those of them that are not marked are sent, last to
 -- first. The measure is the number of rules left. Assumes nothing.
 use Prim.Native.Nat.{◌-◌}
-use mathlib.Core.Logic.{⊎_elim}
 use native.Mathlib.Omega.{arith}
 use borrow.Author.Rules.{rules}
-use borrow.Author.Tests.{not-true, not-false}
 use Rattle.deployment.specs.Values.{numbers_of}
 use Rattle.append_delete.proofs.DeletesAppends.{Deleting, deleting_none, deleting_one, deleting_next, deleting_all, inside_at}
+use Rattle.append_delete.proofs.send_deletes.Goals.{then-not-marks-r, else-not-marks-r}
 use Rattle.append_delete.proofs.send_deletes.Goals as goal
 
 pub loop-k-init : goal.loop-k-init
@@ -20,10 +19,13 @@ loop-k-preserved c =
     let inv = c.loop-k.invariant in
     let is = c.number_at-r.ensures in
     let more = c.loop-k-test.true in
-    ⊎_elim
-    (λ w. rw (w.5, w.6) (deleting_one _ _ _ _ _ _ _ inv more _ (omega arith) (rw (← is) (not-true _ w.0.true)) (rw (← is) w.2.ensures)))
-    (λ w. rw (w.1, w.2) (deleting_next _ _ _ _ _ _ _ inv more (rw (← is) (not-false _ w.0.false))))
-    c.if-not-marks-r.branch
+    elim c.if-not-marks-r.branch [
+      then-not-marks-r w ↦
+        rw (w.field-is, w.n-is)
+        (deleting_one _ _ _ _ _ _ _ inv more _ (omega arith) (rw (← is) w.if-not-marks-r.true) (rw (← is) w.put.ensures))
+      | else-not-marks-r w ↦
+        rw (w.field-is, w.n-is) (deleting_next _ _ _ _ _ _ _ inv more (rw (← is) w.if-not-marks-r.false))
+    ]
 
 pub returns : goal.returns
 returns c = deleting_all _ _ _ _ _ _ _ c.loop-k.invariant c.loop-k-test.false
