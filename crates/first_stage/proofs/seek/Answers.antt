@@ -42,6 +42,12 @@ returns-then-rules-k c =
     seek_here (λ x. eqb x args.r) (view args.list) args.from c.loop-k.k (sought (goal.at.returns-then-rules-k c).At-loop-k) (shown (goal.at.returns-then-rules-k c).In-loop-k)
     (eq-eqb _ _ (sym (rule_shown args.list c.loop-k.k (shown (goal.at.returns-then-rules-k c).In-loop-k)) ∙ c.if-rules-k.true))
 
+pub offset_bounds-rules-k : goal.offset_bounds-rules-k
+offset_bounds-rules-k c = omega (arith, c.loop-k-test.true, c.count-len.ensures, view_fits c.args.list, c.well_formed.0.1.1.0.1.0.1)
+
+pub bounds-rules-k : goal.bounds-rules-k
+bounds-rules-k c = omega (arith, c.loop-k-test.true, c.count-len.ensures, view_fits c.args.list, c.well_formed.0.1.1.0.1.0.1)
+
 pub overflow_add-k : goal.overflow_add-k
 overflow_add-k c = record { fits = omega (arith, below (goal.at.overflow_add-k c).In-loop-k) }
 

@@ -69,8 +69,8 @@ returns-then-at-front c =
 pub overflow_add-place : goal.overflow_add-place
 overflow_add-place c = record { fits = omega (arith, inside (goal.at.overflow_add-place c).Else-at-count) }
 
--- OLD cast-t19 : tie.Need-overflow-cast-t19
--- OLD cast-t19 c = record { fits = omega (arith, inside c.before.before) }
+pub overflow_cast-place : goal.overflow_cast-place
+overflow_cast-place c = record { fits = omega (arith, inside (goal.at.overflow_cast-place c).Else-at-count) }
 
 pub returns : goal.returns
 returns c =
@@ -82,9 +82,3 @@ returns c =
     (not-false a.old c.if-not-old.false-raw) c.seek-at.result c.seek-at.ensures
     c.if-keep.false (λ e. c.if-at-count.false (e ∙ sym c.count.ensures)) c.mov-edited.result.list c.if-at-front.false
     gives c.joined_by-2.ensures.0 c.joined_by-2.ensures.1
-
--- OLD cast-t13 : tie.Need-overflow-cast-t13
--- OLD cast-t13 c = search rules
-
--- OLD cast-t20 : tie.Need-overflow-cast-t20
--- OLD cast-t20 c = search rules
