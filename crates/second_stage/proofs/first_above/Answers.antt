@@ -51,6 +51,12 @@ returns-then-place-place_of c =
     seek_here (λ x. ltb args.place (get_or args.to.now x 0)) (view args.list) args.from c.loop-at.at (sought (goal.at.returns-then-place-place_of c).At-loop-at) (shown (goal.at.returns-then-place-place_of c).In-loop-at)
     (lt-ltb _ _ (rw (looked_up (goal.at.returns-then-place-place_of c).After-place_of) at c.if-place-place_of.true))
 
+pub offset_bounds-rules-at : goal.offset_bounds-rules-at
+offset_bounds-rules-at c = omega (arith, c.loop-at-test.true, c.count-len.ensures, view_fits c.args.list, c.well_formed.0.1.1.0.1.0.1)
+
+pub bounds-rules-at : goal.bounds-rules-at
+bounds-rules-at c = omega (arith, c.loop-at-test.true, c.count-len.ensures, view_fits c.args.list, c.well_formed.0.1.1.0.1.0.1)
+
 pub overflow_add-at : goal.overflow_add-at
 overflow_add-at c = record { fits = omega (arith, below (goal.at.overflow_add-at c).In-loop-at) }
 

@@ -4,10 +4,8 @@ use Prim.Native.Nat.{ℕ, suc, ◌-◌, ◌≤◌, ◌<◌}
 use native.Mathlib.Omega.{arith}
 use mathlib.Core.Path.{◌≡◌, refl, sym, ◌∙◌}
 use mathlib.Core.Bool.{Bool, false}
-use mathlib.Core.Logic.{⊎_elim}
 use mathlib.Core.List.{List}
 use borrow.Author.Rules.{rules}
-use borrow.Author.Tests.{not-true, not-false}
 use lib.ListN.{length, get_or}
 use Rattle.policy.specs.Claims.{Admitted}
 use Rattle.policy.proofs.Lists.{place_in_lem}
@@ -20,7 +18,7 @@ use Rattle.first_stage.proofs.ByPlace.{places_say}
 use Rattle.first_stage.proofs.Looking.{rule_shown}
 use Rattle.second_stage.proofs.SecondStage.{Pass, pass_at, pass_first, pass_fits, pass_rule, pass_settled, pass_room, pass_waiting, pass_last}
 use Rattle.second_stage.proofs.stage_two.Goals as goal
-use Rattle.second_stage.proofs.stage_two.Goals.{After-places_of-to, At-loop-k, Start}
+use Rattle.second_stage.proofs.stage_two.Goals.{After-places_of-to, At-loop-k, In-loop-k, then-not-settled-r, else-not-settled-r}
 
 pub loop-k-init : goal.loop-k-init
 loop-k-init c =
@@ -33,60 +31,58 @@ says_target : (c : After-places_of-to) → Says c.places_of-to.result (view c.ar
 says_target c =
     places_say (view c.args.target) c.requires.0.distinct c.places_of-to.ensures
 
-module _ (c : At-loop-k) where
-  abbrev start : Start
-  start = c.before.before.before.before.before.before
+-- the invariant, of the target that is planned for
+pass : (c : At-loop-k)
+    → let stage = c.args.stage in
+    Pass (view c.args.target) stage.settled (view stage.list) c.args.field.now stage.sent c.loop-k.list c.loop-k.sent c.loop-k.field
+      (c.count-len.result - c.loop-k.k)
+pass c = c.loop-k.invariant (view c.args.target) c.requires.0 (says_target (goal.at.At-loop-k c).After-places_of-to)
 
+-- the list has no more rules than slots
+below : (c : At-loop-k) → c.count-len.result ≤ 1024
+below c =
+    omega (
+      arith,
+      c.count-len.ensures,
+      view_fits c.args.stage.list,
+      c.well_formed.0.1.1.0.1.1.0.1.0.1,
+    )
+
+module _ (c : In-loop-k) where
   abbrev stage : Stage
-  stage = start.args.stage
+  stage = c.args.stage
 
-  abbrev len : ℕ
-  len = c.before.count.result
+  abbrev at : ℕ
+  at = c.count-len.result - 1 - c.loop-k.k
 
-  -- the invariant, of the target that is planned for
-  pass : Pass (view start.args.target) stage.settled (view stage.list) start.args.field.now stage.sent c.loop.list c.loop.sent
-      c.loop.field (len - c.loop.k)
-  pass = c.loop.invariant (view start.args.target) start.requires.0 (says_target c.before.before.before.before)
+  -- the last rule that is left of the front stands at that index
+  again : {target : List ℕ}
+      → Pass target stage.settled (view stage.list) c.args.field.now stage.sent c.loop-k.list c.loop-k.sent c.loop-k.field (c.count-len.result - c.loop-k.k)
+      → Pass target stage.settled (view stage.list) c.args.field.now stage.sent c.loop-k.list c.loop-k.sent c.loop-k.field (suc at)
+  again p = pass_at (omega (arith, c.loop-k-test.true)) p
 
-  -- the list has no more rules than slots
-  below : len ≤ 1024
-  below =
-      omega (
-        arith,
-        c.before.count.ensures,
-        view_fits stage.list,
-        start.good.0.1.1.0.1.1.0.1.0.1,
-      )
+  here : Pass (view c.args.target) stage.settled (view stage.list) c.args.field.now stage.sent c.loop-k.list c.loop-k.sent c.loop-k.field (suc at)
+  here = again (pass (goal.at.In-loop-k c).At-loop-k)
 
-  module _ (more : c.loop.k < len) where
-    abbrev at : ℕ
-    at = len - 1 - c.loop.k
+  inside : suc at ≤ length (view c.loop-k.list)
+  inside = pass_fits _ _ _ _ _ _ _ _ _ here
 
-    -- the last rule that is left of the front stands at that index
-    again : {target : List ℕ}
-        → Pass target stage.settled (view stage.list) start.args.field.now stage.sent c.loop.list c.loop.sent c.loop.field (len - c.loop.k)
-        → Pass target stage.settled (view stage.list) start.args.field.now stage.sent c.loop.list c.loop.sent c.loop.field (suc at)
-    again p = pass_at (omega arith) p
+  -- it is the one that stood there at the start of the stage
+  next : get_or c.loop-k.list.rules at 0 ≡ get_or (view stage.list) at 0
+  next = rule_shown c.loop-k.list at inside ∙ pass_rule _ _ _ _ _ _ _ _ _ here
 
-    inside : suc at ≤ length (view c.loop.list)
-    inside = pass_fits _ _ _ _ _ _ _ _ _ (again pass)
+  small : get_or c.loop-k.list.rules at 0 < 1024
+  small =
+      let first = view stage.list in
+      rw next (c.requires.1 (get_or first at 0) (place_in_lem 0 first at here.inside))
 
-    -- it is the one that stood there at the start of the stage
-    next : get_or c.loop.list.rules at 0 ≡ get_or (view stage.list) at 0
-    next = rule_shown c.loop.list at inside ∙ pass_rule _ _ _ _ _ _ _ _ _ (again pass)
+  mark : {b : Bool} → get_or stage.settled (get_or c.loop-k.list.rules at 0) false ≡ b → get_or stage.settled (get_or (view stage.list) at 0) false ≡ b
+  mark e = rw next at e
 
-    small : get_or c.loop.list.rules at 0 < 1024
-    small =
-        let first = view stage.list in
-        rw next (start.requires.1 (get_or first at 0) (place_in_lem 0 first at (again pass).inside))
-
-    mark : {b : Bool} → get_or stage.settled (get_or c.loop.list.rules at 0) false ≡ b → get_or stage.settled (get_or (view stage.list) at 0) false ≡ b
-    mark e = rw next at e
-
-    -- a waiting rule: there is room for its command
-    room : get_or stage.settled (get_or c.loop.list.rules at 0) false ≡ false → c.loop.sent < 1024
-    unfolding front_of
-    room unmarked = pass_room _ _ _ _ _ _ _ _ _ (again pass) (mark unmarked) start.requires.2
+  -- a waiting rule: there is room for its command
+  room : get_or stage.settled (get_or c.loop-k.list.rules at 0) false ≡ false → c.loop-k.sent < 1024
+  unfolding front_of
+  room unmarked = pass_room _ _ _ _ _ _ _ _ _ here (mark unmarked) c.requires.2
 
 pub overflow_sub-at : goal.overflow_sub-at
 overflow_sub-at c = omega (arith, c.loop-k-test.true)
@@ -95,60 +91,61 @@ pub overflow_sub-at-in-loop-k : goal.overflow_sub-at-in-loop-k
 overflow_sub-at-in-loop-k c = omega (arith, c.loop-k-test.true)
 
 pub offset_bounds-rules-at : goal.offset_bounds-rules-at
-offset_bounds-rules-at c = record { fits = omega (arith, below c.before.before) }
+offset_bounds-rules-at c = omega (arith, below (goal.at.offset_bounds-rules-at c).At-loop-k, c.loop-k-test.true)
 
 pub bounds-rules-at : goal.bounds-rules-at
-bounds-rules-at c = omega (arith, below c.before.before, c.loop-k-test.true)
+bounds-rules-at c = omega (arith, below (goal.at.bounds-rules-at c).At-loop-k, c.loop-k-test.true)
 
 pub overflow_cast-r : goal.overflow_cast-r
-overflow_cast-r c = record { fits = omega (arith, small c.before.before c.loop-k-test.true) }
+overflow_cast-r c = record { fits = omega (arith, small (goal.at.overflow_cast-r c).In-loop-k) }
 
 pub bounds-settled-r : goal.bounds-settled-r
-bounds-settled-r c = small c.before.before c.loop-k-test.true
+bounds-settled-r c = small (goal.at.bounds-settled-r c).In-loop-k
 
 pub overflow_add-at : goal.overflow_add-at
-overflow_add-at c = record { fits = omega (arith, below c.before.before.before) }
+overflow_add-at c = record { fits = omega (arith, below (goal.at.overflow_add-at c).At-loop-k) }
 
 pub settle-list-requires : goal.settle-list-requires
 settle-list-requires c =
-    let more = c.loop-k-test.true in (
+    let turn = (goal.at.settle-list-requires c).In-loop-k in (
       omega arith,
-      omega (arith, inside c.before.before.before.before.before more),
-      small c.before.before.before.before.before more,
-      room c.before.before.before.before.before more (not-true _ c.if-not-settled-r.true-raw),
-      (pass c.before.before.before.before.before).sends.long,
+      omega (arith, inside turn),
+      small turn,
+      room turn c.if-not-settled-r.true,
+      (here turn).sends.long,
     )
 
 pub overflow_add-sent : goal.overflow_add-sent
-overflow_add-sent c =
-    record { fits = omega (arith, room c.before.before.before.before.before.before.before.before c.loop-k-test.true (not-true _ c.if-not-settled-r.true-raw)) }
+overflow_add-sent c = record { fits = omega (arith, room (goal.at.overflow_add-sent c).In-loop-k c.if-not-settled-r.true) }
 
 pub overflow_step-k : goal.overflow_step-k
-overflow_step-k c = record { fits = omega (arith, below c.before.before.before, c.loop-k-test.true) }
+overflow_step-k c = record { fits = omega (arith, below (goal.at.overflow_step-k c).At-loop-k, c.loop-k-test.true) }
 
 pub loop-k-smaller : goal.loop-k-smaller
 loop-k-smaller c = omega (arith, c.loop-k-test.true)
 
 pub loop-k-preserved : goal.loop-k-preserved
 loop-k-preserved c =
-    let more = c.loop-k-test.true in
+    let turn = (goal.at.loop-k-preserved c).In-loop-k in
     λ target policy says.
-    let p = again c.before.before.before more (c.loop-k.invariant target policy says) in
-    pass_at {i = at c.before.before.before more} (omega arith)
-    (⊎_elim
-    (λ w. rw (w.6, w.7, w.8)
-    (pass_waiting _ _ _ _ _ _ _ _ _ p (mark c.before.before.before more (not-true _ w.0.true)) c.places_of-to.result _ _ _ _ policy says
-    (omega arith) (next c.before.before.before more) w.3.ensures))
-    (λ w. rw (w.1, w.2, w.3) (pass_settled _ _ _ _ _ _ _ _ _ p (mark c.before.before.before more (not-false _ w.0.false))))
-    c.if-not-settled-r.branch)
+    let p = again turn (c.loop-k.invariant target policy says) in
+    pass_at {i = at turn} (omega (arith, c.loop-k-test.true))
+    (elim c.if-not-settled-r.branch [
+      then-not-settled-r w ↦
+        rw (w.list-is, w.sent-is, w.field-is)
+        (pass_waiting _ _ _ _ _ _ _ _ _ p (mark turn w.if-not-settled-r.true) c.places_of-to.result _ _ _ _ policy says
+        (omega arith) (next turn) w.settle-list.ensures)
+      | else-not-settled-r w ↦
+        rw (w.list-is, w.sent-is, w.field-is)
+        (pass_settled _ _ _ _ _ _ _ _ _ p (mark turn w.if-not-settled-r.false))
+    ])
 
 pub shape_of-field : goal.shape_of-field
-shape_of-field c = (pass c.before).sends.long ∙ sym (start c.before).pre.3
+shape_of-field c = (pass (goal.at.shape_of-field c).At-loop-k).sends.long ∙ sym c.requires.3
 
 pub returns : goal.returns
 unfolding front_of
 returns c =
-    let begun = start c.before in
-    let stage = begun.args.stage in
-    let end : len c.before - c.loop-k.k ≡ 0 = omega (arith, c.loop-k-test.false) in
-    pass_last (view begun.args.target) stage.settled (view stage.list) _ stage.sent _ _ _ (pass_at end (pass c.before))
+    let stage = c.args.stage in
+    let end : c.count-len.result - c.loop-k.k ≡ 0 = omega (arith, c.loop-k-test.false) in
+    pass_last (view c.args.target) stage.settled (view stage.list) _ stage.sent _ _ _ (pass_at end (pass (goal.at.returns c).At-loop-k))
