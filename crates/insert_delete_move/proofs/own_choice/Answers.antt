@@ -3,7 +3,6 @@
 use Prim.Native.Nat.{ℕ, ◌-◌, ◌≤◌, ◌<◌}
 use native.Mathlib.Omega.{arith}
 use mathlib.Core.Path.{◌≡◌, refl, ◌∙◌, ap}
-use mathlib.Core.Logic.{⊎_elim}
 use mathlib.Core.List.{List}
 use borrow.Author.Rules.{rules}
 use lib.ListN.{length, take, get_or, length-set}
@@ -17,7 +16,7 @@ use Rattle.first_stage.proofs.ByPlace.{places_say}
 use Rattle.first_stage.proofs.Looking.{rule_shown}
 use Rattle.insert_delete_move.proofs.OwnChoice.{Chosen, choice_ends, choice_keeps, choice_passes}
 use Rattle.insert_delete_move.proofs.own_choice.Goals as goal
-use Rattle.insert_delete_move.proofs.own_choice.Goals.{After-place_of-place, In-loop-i}
+use Rattle.insert_delete_move.proofs.own_choice.Goals.{After-place_of-place, In-loop-i, then-last-place, else-last-place}
 
 pub loop-i-init : goal.loop-i-init
 loop-i-init c = (refl, search rules, λ initial says d. refl)
@@ -32,6 +31,12 @@ below c =
       view_fits c.args.target,
       c.well_formed.1.0.1.1.0.1.0.1,
     )
+
+pub offset_bounds-rules-i : goal.offset_bounds-rules-i
+offset_bounds-rules-i c = omega (arith, c.loop-i-test.true, c.count-len.ensures, view_fits c.args.target, c.well_formed.1.0.1.1.0.1.0.1)
+
+pub bounds-rules-i : goal.bounds-rules-i
+bounds-rules-i c = omega (arith, c.loop-i-test.true, c.count-len.ensures, view_fits c.args.target, c.well_formed.1.0.1.1.0.1.0.1)
 
 pub offset_bounds-kept-count : goal.offset_bounds-kept-count
 offset_bounds-kept-count c = record { fits = omega (arith, below (goal.at.offset_bounds-kept-count c).In-loop-i, c.loop-i.invariant.1) }
@@ -67,23 +72,24 @@ loop-i-preserved c =
     let len = c.count-len.result in
     let seen : take len target.rules ≡ view target = view_count target len c.count-len.ensures in
     let more : now.i < length (view target) = omega (arith, c.loop-i-test.true, c.count-len.ensures) in
-    ⊎_elim
-    (λ w. (
-      ap length w.1 ∙ length-set now.kept now.count _ ∙ now.invariant.0,
-      omega (arith, w.2),
-      λ initial says d. rw (w.1, w.2, w.3, seen, rule_shown target now.i more, looked_up (goal.at.loop-i-preserved c).After-place_of-place initial says)
-          (choice_keeps initial (view target) now.kept now.count now.last now.i
-          (rw seen at (now.invariant.2 initial says d)) more d (omega (arith, below (goal.at.loop-i-preserved c).In-loop-i, now.invariant.0, now.invariant.1))
-          (rw (looked_up (goal.at.loop-i-preserved c).After-place_of-place initial says) at w.0.true)),
-    ))
-    (λ w. (
-      ap length w.1 ∙ now.invariant.0,
-      omega (arith, w.2),
-      λ initial says d. rw (w.1, w.2, w.3, seen)
-          (choice_passes initial (view target) now.kept now.count now.last now.i
-          (rw seen at (now.invariant.2 initial says d)) more d (rw (looked_up (goal.at.loop-i-preserved c).After-place_of-place initial says) at w.0.false)),
-    ))
-    c.if-last-place.branch
+    let at-place = (goal.at.loop-i-preserved c).After-place_of-place in
+    elim c.if-last-place.branch [
+      then-last-place w ↦ (
+        ap length w.kept-is ∙ length-set now.kept now.count _ ∙ now.invariant.0,
+        omega (arith, w.count-is),
+        λ initial says d. rw (w.kept-is, w.count-is, w.last-is, seen, rule_shown target now.i more, looked_up at-place initial says)
+            (choice_keeps initial (view target) now.kept now.count now.last now.i
+            (rw seen at (now.invariant.2 initial says d)) more d (omega (arith, below (goal.at.loop-i-preserved c).In-loop-i, now.invariant.0, now.invariant.1))
+            (rw (looked_up at-place initial says) at w.if-last-place.true)),
+      )
+      | else-last-place w ↦ (
+        ap length w.kept-is ∙ now.invariant.0,
+        omega (arith, w.count-is),
+        λ initial says d. rw (w.kept-is, w.count-is, w.last-is, seen)
+            (choice_passes initial (view target) now.kept now.count now.last now.i
+            (rw seen at (now.invariant.2 initial says d)) more d (rw (looked_up at-place initial says) at w.if-last-place.false)),
+      )
+    ]
 
 pub returns : goal.returns
 unfolding view

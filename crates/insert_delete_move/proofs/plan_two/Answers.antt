@@ -13,4 +13,4 @@ pub returns : goal.returns
 returns c =
     let a = c.args in
     c.send.ensures
-    ∙ plan_sent {c.before.before.before.before.before.before.before = made_two_of (numbers_of a.initial.now) (numbers_of a.target.now) (keep_of a.has_keep a.keep.now)} c.made_two-plan.ensures _
+    ∙ plan_sent {made = made_two_of (numbers_of a.initial.now) (numbers_of a.target.now) (keep_of a.has_keep a.keep.now)} c.made_two-plan.ensures _
