@@ -11,5 +11,5 @@ returns c =
     rw (← c.why_number-number.ensures)
     (puts_whole (puts_more c.put_named-next.ensures (puts_more c.put_named-next-2.ensures c.put_word.ensures))
     (rw c.why_number-number.ensures
-    (omega (arith, refused_short (record { c.before.before.before.before.before.before.before.before.before.before.before.before.before.before = c.args.why; at = c.args.at }) (omega (arith, c.ranges.at)))))
+    (omega (arith, refused_short (record { why = c.args.why; at = c.args.at }) (omega (arith, c.ranges.at)))))
     (omega arith))

@@ -8,19 +8,19 @@ use Rattle.replay.proofs.Scripts.{script_count, never_wrong}
 use Rattle.lines.specs.Text.{line_text, lines_text}
 use Rattle.lines.proofs.Lines.{Lines, next_command, no_lines, one_line, all_lines}
 use Rattle.lines.proofs.steps.put_lines.Goals as goal
-use Rattle.lines.proofs.steps.put_lines.Goals.{In-Is-2, In-loop-k}
+use Rattle.lines.proofs.steps.put_lines.Goals.{In-Is, In-loop-k}
 
 -- the loop's test, in the words of the definition
 inside : (c : In-loop-k) → c.loop-k.k < command_count c.args.script.now
 inside c = omega (arith, c.loop-k-test.true, c.commands-count.ensures)
 
 -- the k-th command, and those behind it
-next_is : (c : In-Is-2) →
+next_is : (c : In-Is) →
     let value = c.args.script.now in
     let script = commands_of (script_of value) in
     Readable value → drop c.loop-k.k script ≡ c.in-Is.c ∷ drop (suc c.loop-k.k) script
 next_is c readable =
-    next_command c.args.script.now readable c.loop-k.k c.in-Is.c (inside (goal.at.In-Is-2 c).In-loop-k)
+    next_command c.args.script.now readable c.loop-k.k c.in-Is.c (inside (goal.at.In-Is c).In-loop-k)
     (sym c.in-Is.is ∙ c.command_at-d.ensures)
 
 pub loop-k-init : goal.loop-k-init
@@ -43,7 +43,7 @@ loop-k-preserved c =
       search rules,
       λ readable.
           one_line lines_text 1 (commands_of (script_of c.args.script.now)) k (c.loop-k.invariant.1 readable) c.in-Is.c
-          (line_text (k + 1) c.in-Is.c) (next_is (goal.at.loop-k-preserved c).In-Is-2 readable) refl c.put_line-next.ensures,
+          (line_text (k + 1) c.in-Is.c) (next_is (goal.at.loop-k-preserved c).In-Is readable) refl c.put_line-next.ensures,
     )
 
 pub shape_of-place : goal.shape_of-place

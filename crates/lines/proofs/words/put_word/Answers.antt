@@ -9,6 +9,6 @@ returns c =
           λ fits.
           record {
             place = c.store.ensures;
-            end = c.wrapping_add_usize.ensures ∙ mod-eq_of_lt fits;
+            end = c.wrapping_add_usize.ensures.value ∙ mod-eq_of_lt fits;
           };
     }
