@@ -4,6 +4,10 @@ use Rattle.console_text.specs.Reading.{most_second}
 use borrow.Author.Rules.{rules}
 use Rattle.console_reader.proofs.most_second.Goals as goal
 
+pub returns-in-A : goal.returns-in-A
+unfolding most_second
+returns-in-A c = rw c.in-A.is
+
 pub returns-then-code-eq-MOV : goal.returns-then-code-eq-MOV
 unfolding most_second
 returns-then-code-eq-MOV c = rw (c.in-B.is, eq-eqb _ _ c.if-code-eq-MOV.true)

@@ -3,7 +3,7 @@
 use Prim.Native.Nat.{ℕ, ◌≤◌}
 use native.Mathlib.Omega.{arith}
 use mathlib.Core.Path.{sym, ◌∙◌}
-use mathlib.Core.Logic.{inl, inr, ⊎_elim}
+use mathlib.Core.Logic.{inl, inr}
 use mathlib.Core.List.{List}
 use lib.ListN.{drop}
 use borrow.Author.Tests.{ltb-true, ltb-false}
@@ -11,7 +11,7 @@ use borrow.Author.Rules.{rules}
 use Rattle.console_text.specs.Reading.{most_number, most_second}
 use Rattle.console_reader.proofs.OneLine.{no_line, LineAt, line_at, line_beyond, heard_fits, line_read_lem, line_wrong}
 use Rattle.console_reader.proofs.next_at.Goals as goal
-use Rattle.console_reader.proofs.next_at.Goals.{After-line_of-found, Else-most_second-two, In-Is}
+use Rattle.console_reader.proofs.next_at.Goals.{After-line_of-found, Else-most_second-two, In-Is, then-one-gt-MOST_NUMBER-via-then-one-gt-MOST_NUMBER, then-one-gt-MOST_NUMBER-via-else-one-gt-MOST_NUMBER+then-most_second-two}
 
 abbrev text : After-line_of-found → List ℕ
 text c = c.args.text.now
@@ -38,7 +38,7 @@ there c =
     (rw c.in-Is.is at c.line_of-found.ensures)
 
 within_one : (c : Else-most_second-two) → one (goal.at.Else-most_second-two c).In-Is ≤ most_number
-within_one c = c.then-one-gt-MOST_NUMBER.false
+within_one c = c.if-one-gt-MOST_NUMBER.false
 
 within_two : (c : Else-most_second-two) → two (goal.at.Else-most_second-two c).In-Is ≤ most_second c.args.maker (code (goal.at.Else-most_second-two c).In-Is)
 within_two c =
@@ -64,10 +64,10 @@ returns-in-Wrong c =
 pub returns-then-one-gt-MOST_NUMBER : goal.returns-then-one-gt-MOST_NUMBER
 returns-then-one-gt-MOST_NUMBER c =
     line_beyond (there (goal.at.returns-then-one-gt-MOST_NUMBER c).In-Is)
-    (⊎_elim
-    (λ t. inl t.true)
-    (λ t. inr (omega (arith, t.1.ensures, ltb-true t.1.result (two (goal.at.returns-then-one-gt-MOST_NUMBER c).In-Is) t.2.true)))
-    c.then-one-gt-MOST_NUMBER.branch)
+    (elim c.then-one-gt-MOST_NUMBER.branch [
+      then-one-gt-MOST_NUMBER-via-then-one-gt-MOST_NUMBER w ↦ inl w.if-one-gt-MOST_NUMBER.true
+    | then-one-gt-MOST_NUMBER-via-else-one-gt-MOST_NUMBER+then-most_second-two w ↦ inr (omega (arith, w.most_second.ensures, w.if-most_second-two.true))
+    ])
 
 -- what is heard of the second number fits
 pub overflow_cast-second : goal.overflow_cast-second

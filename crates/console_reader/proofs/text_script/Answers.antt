@@ -30,11 +30,10 @@ returns-in-Commands c =
 -- 55, 56 and 4 by line
 pub returns-in-Turned : goal.returns-in-Turned
 returns-in-Turned c =
-    let told = c.counted-1.given in
     let call = c.put_commands-counted in
     let a = c.args in
-    turned_text a.maker a.kind a.text.now a.place.now told.0.0 (there (goal.at.returns-in-Turned c).Else-not-is_type)
-    (pass_turned (read (goal.at.returns-in-Turned c).After-is_type) call.result _ _ call.ensures told.0.0 told.1)
+    turned_text a.maker a.kind a.text.now a.place.now c.in-Turned.refusal (there (goal.at.returns-in-Turned c).Else-not-is_type)
+    (pass_turned (read (goal.at.returns-in-Turned c).After-is_type) call.result _ _ call.ensures c.in-Turned.refusal c.in-Turned.is)
 
 -- 11
 pub returns-then-not-is_type : goal.returns-then-not-is_type

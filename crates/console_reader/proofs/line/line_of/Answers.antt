@@ -3,13 +3,13 @@
 use Prim.Native.Nat.{◌-◌, ◌≤◌}
 use native.Mathlib.Omega.{arith}
 use mathlib.Core.Path.{◌≡◌, sym, ◌∙◌}
-use mathlib.Core.Logic.{⊎_elim}
 use lib.ListN.{drop}
 use Rattle.policy.specs.Command.{codes_of}
 use Rattle.console_text.specs.Reading.{any_read}
 use Rattle.console_reader.proofs.Codes.{read_from, all_codes, no_code_left, other_type, no_line, line_met}
 use borrow.Author.Rules.{rules}
 use Rattle.console_reader.proofs.line.line_of.Goals as goal
+use Rattle.console_reader.proofs.line.line_of.Goals.{then-allows+in_default, else-allows}
 
 pub loop-code-init : goal.loop-code-init
 loop-code-init c =
@@ -24,10 +24,11 @@ loop-code-preserved c =
     let allows = c.allows.ensures in (
       omega (arith, c.loop-code-test.true),
       c.loop-code.invariant.1
-          ∙ ⊎_elim
-          (λ came. no_line args.maker args.kind rest code args.text.now (sym allows ∙ came.0.true) (rw came.3.given.1 at came.1.ensures))
-          (λ passed. other_type args.maker args.kind rest code (sym allows ∙ passed.false))
-          c.if-allows.branch,
+          ∙ elim c.if-allows.branch [
+            then-allows+in_default w ↦
+                no_line args.maker args.kind rest code args.text.now (sym allows ∙ w.if-allows.true) (rw w.in_default.is at w.line_at-line.ensures)
+          | else-allows w ↦ other_type args.maker args.kind rest code (sym allows ∙ w.if-allows.false)
+          ],
     )
 
 pub returns-in-Is : goal.returns-in-Is
