@@ -16,7 +16,7 @@ use Rattle.replay.proofs.Scripts.{script_count, never_wrong}
 use Rattle.lines.proofs.Lines.{Lines, next_command, no_lines, one_line, all_lines}
 use Rattle.console_text.specs.Text.{line_of, lines_of, script_text}
 use Rattle.console_writer.proofs.put_script.Goals as goal
-use Rattle.console_writer.proofs.put_script.Goals.{At-loop-k, In-Is-2, In-loop-k}
+use Rattle.console_writer.proofs.put_script.Goals.{At-loop-k, In-Is, In-loop-k}
 use Rattle.console_writer.proofs.put_script.Invariants.{from}
 
 abbrev value : At-loop-k → List ℕ
@@ -26,11 +26,11 @@ value c = c.args.script.now
 inside : (c : In-loop-k) → c.loop-k.k < command_count (value (goal.at.In-loop-k c).At-loop-k)
 inside c = omega (arith, c.loop-k-test.true, c.commands-count.ensures)
 
-next_is : (c : In-Is-2) →
-    let script = commands_of (script_of (value (goal.at.In-Is-2 c).At-loop-k)) in
-    Readable (value (goal.at.In-Is-2 c).At-loop-k) → drop c.loop-k.k script ≡ c.in-Is.c ∷ drop (suc c.loop-k.k) script
+next_is : (c : In-Is) →
+    let script = commands_of (script_of (value (goal.at.In-Is c).At-loop-k)) in
+    Readable (value (goal.at.In-Is c).At-loop-k) → drop c.loop-k.k script ≡ c.in-Is.c ∷ drop (suc c.loop-k.k) script
 next_is c readable =
-    next_command (value (goal.at.In-Is-2 c).At-loop-k) readable c.loop-k.k c.in-Is.c (inside (goal.at.In-Is-2 c).In-loop-k) (sym c.in-Is.is ∙ c.command_at-d.ensures)
+    next_command (value (goal.at.In-Is c).At-loop-k) readable c.loop-k.k c.in-Is.c (inside (goal.at.In-Is c).In-loop-k) (sym c.in-Is.is ∙ c.command_at-d.ensures)
 
 pub loop-k-init : goal.loop-k-init
 loop-k-init c =
@@ -45,7 +45,7 @@ loop-k-preserved c =
       search rules,
       λ readable.
           one_line (from m) 0 (commands_of (script_of (value (goal.at.loop-k-preserved c).At-loop-k))) c.loop-k.k (c.loop-k.invariant.1 readable) command (line_of m (said m command))
-          (next_is (goal.at.loop-k-preserved c).In-Is-2 readable) refl c.put_line-next.ensures,
+          (next_is (goal.at.loop-k-preserved c).In-Is readable) refl c.put_line-next.ensures,
     )
 
 pub returns : goal.returns

@@ -6,10 +6,10 @@ use Rattle.listing.proofs.PlanTexts.{not_turned, field_inside, value_reads, bloc
 use Rattle.deployment.specs.File.{head_bytes}
 use borrow.Author.Rules.{rules}
 use Rattle.listing.proofs.put_plan.Goals as goal
-use Rattle.listing.proofs.put_plan.Goals.{In-Done-2}
+use Rattle.listing.proofs.put_plan.Goals.{In-Done}
 
 -- the field's part that the plan counts is inside it
-inside : (c : In-Done-2) → let plan = c.in-Done.plan in (head_bytes ≤ plan.bytes) × (plan.bytes ≤ length c.args.field.now)
+inside : (c : In-Done) → let plan = c.in-Done.plan in (head_bytes ≤ plan.bytes) × (plan.bytes ≤ length c.args.field.now)
 inside c = field_inside c.requires.1 c.in-Done.plan c.in-Done.is
 
 pub returns-in_default : goal.returns-in_default
@@ -24,10 +24,10 @@ returns c =
     rw (← block_is reads plan is args.kind args.initial args.target) (c.put_block.ensures (_, value_reads reads plan is))
 
 pub slice_bounds-put_block-count : goal.slice_bounds-put_block-count
-slice_bounds-put_block-count c = omega (arith, inside (goal.at.slice_bounds-put_block-count c).In-Done-2)
+slice_bounds-put_block-count c = omega (arith, inside (goal.at.slice_bounds-put_block-count c).In-Done)
 
 pub slice_bounds-put_block-start : goal.slice_bounds-put_block-start
-slice_bounds-put_block-start c = omega (arith, inside (goal.at.slice_bounds-put_block-start c).In-Done-2)
+slice_bounds-put_block-start c = omega (arith, inside (goal.at.slice_bounds-put_block-start c).In-Done)
 
 pub slice_bounds-put_block-end : goal.slice_bounds-put_block-end
-slice_bounds-put_block-end c = omega (arith, inside (goal.at.slice_bounds-put_block-end c).In-Done-2)
+slice_bounds-put_block-end c = omega (arith, inside (goal.at.slice_bounds-put_block-end c).In-Done)

@@ -11,10 +11,10 @@ use Rattle.listing.proofs.PlanTexts.{not_turned, value_reads}
 use Rattle.console_writer.proofs.Plans.{done_or_turned, one_refusal, counted_inside, field_text}
 use borrow.Author.Rules.{rules}
 use Rattle.console_writer.proofs.files.write_planned.Goals as goal
-use Rattle.console_writer.proofs.files.write_planned.Goals.{In-Done-2}
+use Rattle.console_writer.proofs.files.write_planned.Goals.{In-Done}
 
 -- the field's part that the plan counts is inside it
-inside : (c : In-Done-2) →
+inside : (c : In-Done) →
     let plan = c.in-Done.plan in
     (head_bytes ≤ plan.bytes) × (plan.bytes ≤ length c.args.field.now)
 inside c = counted_inside c.requires c.in-Done.plan c.in-Done.is
@@ -26,7 +26,7 @@ returns-in-Done c =
     let args = c.args in
     record {
       refused = λ refusal turned. absurd (done_or_turned is turned);
-      c.before.before =
+      written =
           λ planned reads right.
           c.write_text.ensures (planned.script, value_reads reads plan is, right) ∙ field_text args.maker args.place.now reads plan is;
     }
@@ -42,10 +42,10 @@ returns-in-Turned c =
     }
 
 pub slice_bounds-write_text-count : goal.slice_bounds-write_text-count
-slice_bounds-write_text-count c = omega (arith, inside (goal.at.slice_bounds-write_text-count c).In-Done-2)
+slice_bounds-write_text-count c = omega (arith, inside (goal.at.slice_bounds-write_text-count c).In-Done)
 
 pub slice_bounds-write_text-start : goal.slice_bounds-write_text-start
-slice_bounds-write_text-start c = omega (arith, inside (goal.at.slice_bounds-write_text-start c).In-Done-2)
+slice_bounds-write_text-start c = omega (arith, inside (goal.at.slice_bounds-write_text-start c).In-Done)
 
 pub slice_bounds-write_text-end : goal.slice_bounds-write_text-end
-slice_bounds-write_text-end c = omega (arith, inside (goal.at.slice_bounds-write_text-end c).In-Done-2)
+slice_bounds-write_text-end c = omega (arith, inside (goal.at.slice_bounds-write_text-end c).In-Done)
