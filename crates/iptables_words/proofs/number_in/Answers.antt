@@ -2,7 +2,6 @@
 use mathlib.Core.Path.{◌≡◌, sym, ◌∙◌}
 use mathlib.Core.Logic.{inl, inr, ⊎_elim}
 use borrow.Author.Rules.{rules}
-use borrow.Author.Tests.{ltb-true, ltb-false}
 use Rattle.numerals.specs.Numerals.{number_of}
 use Rattle.numerals.specs.Found.{whole_held}
 use Rattle.numerals.specs.declared.Whole.TheVariants.{Is}
@@ -18,13 +17,13 @@ pub returns : goal.returns
 returns c =
     let args = c.args in
     in_bounds_lem args.word.now args.low args.high _ c.requires (number (goal.at.returns c).In-Is)
-    c.then-n-low.false (ltb-false _ _ c.if-high-n.false-raw)
+    c.if-n-low.false c.if-high-n.false
 
 pub returns-then-n-low : goal.returns-then-n-low
 returns-then-n-low c =
     let args = c.args in
     out_of_bounds args.word.now args.low args.high _ c.requires (number (goal.at.returns-then-n-low c).In-Is)
-    (⊎_elim (λ below. inl below.true) (λ above. inr (ltb-true _ _ above.1.true)) c.then-n-low.branch)
+    (⊎_elim (λ below. inl below) (λ above. inr above.1) c.then-n-low.either)
 
 pub returns-in_default : goal.returns-in_default
 returns-in_default c =
