@@ -1,5 +1,7 @@
 -- `module_fits` meets its contract: `-m` isn't given, it is given twice, or its one word is tested as the definition does. Assumes nothing.
 use Prim.Native.Nat.{ℕ}
+use Rattle.std.proofs.Common.{arith}
+use Rattle.std.proofs.lemmas.Grind.{common_steps}
 use mathlib.Core.Path.{◌≡◌, refl, sym, ◌∙◌}
 use mathlib.Core.Bool.{◌&&◌, ◌||◌}
 use mathlib.Core.Logic.{⊎_elim}
@@ -26,12 +28,6 @@ unfolding module_fits text
 fits c =
     rw (given_once c.option-found.ensures c.if-found-eq0.false c.if-found-eq2.false, module_fits, ← c.word_of-word.ensures) refl
 
-behind : (c : Joined-is_behind) → let g = given (goal.at.Joined-is_behind c).After-option-found in c.if-is_behind.value ≡ (is_behind (text "-m") g && protocol_is (word (goal.at.Joined-is_behind c).After-word_of-word) g)
-unfolding text
-behind c =
-    let first = c.is_behind.ensures in
-    ⊎_elim (λ t. and_second first t.0.true (t.2 ∙ t.1.ensures)) (λ f. and_first first _ f.0.false f.1) c.if-is_behind.branch
-
 pub returns-then-found-eq0 : goal.returns-then-found-eq0
 unfolding module_fits text
 returns-then-found-eq0 c = rw (not_given c.option-found.ensures c.if-found-eq0.true, module_fits) refl
@@ -43,16 +39,12 @@ returns-then-found-eq2 c = rw ((given_twice c.option-found.ensures c.if-found-eq
 -- then the word: it is `tcp`, or tested against `udp`
 pub returns-then-same_bytes : goal.returns-then-same_bytes
 unfolding text
-returns-then-same_bytes c =
-    and_second (behind (goal.at.returns-then-same_bytes c).Joined-is_behind) c.if-protocol_is.true (or_first c.same_bytes.ensures _ c.if-same_bytes.true refl)
-    ∙ sym (fits (goal.at.returns-then-same_bytes c).After-word_of-word)
+returns-then-same_bytes c = rw (fits (goal.at.returns-then-same_bytes c).After-word_of-word) (grind (arith, common_steps))
 
 pub returns-else-same_bytes : goal.returns-else-same_bytes
 unfolding text
-returns-else-same_bytes c =
-    and_second (behind (goal.at.returns-else-same_bytes c).Joined-is_behind) c.if-protocol_is.true (or_second c.same_bytes.ensures c.if-same_bytes.false c.same_bytes-else-same_bytes.ensures)
-    ∙ sym (fits (goal.at.returns-else-same_bytes c).After-word_of-word)
+returns-else-same_bytes c = rw (fits (goal.at.returns-else-same_bytes c).After-word_of-word) (grind (arith, common_steps))
 
 pub returns-else-protocol_is : goal.returns-else-protocol_is
-returns-else-protocol_is c =
-    and_first (behind (goal.at.returns-else-protocol_is c).Joined-is_behind) _ c.if-protocol_is.false refl ∙ sym (fits (goal.at.returns-else-protocol_is c).After-word_of-word)
+unfolding text
+returns-else-protocol_is c = rw (fits (goal.at.returns-else-protocol_is c).After-word_of-word) (grind (arith, common_steps))
