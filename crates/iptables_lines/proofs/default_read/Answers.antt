@@ -48,13 +48,13 @@ pub returns : goal.returns
 unfolding default_told part
 returns c =
     let is = told (goal.at.returns c).Else-cut-counters _ (sym c.in-Is.is ∙ c.target_of-target.ensures) in
-    rw (passes c.are_counters.ensures c.if-not-are_counters.false-raw) at is
+    rw (sym c.are_counters.ensures ∙ c.if-not-are_counters.false) at is
 
 pub returns-then-not-are_counters : goal.returns-then-not-are_counters
 unfolding default_told part
 returns-then-not-are_counters c =
     let is = told (goal.at.returns-then-not-are_counters c).Else-cut-counters _ (sym c.in-Is.is ∙ c.target_of-target.ensures) in
-    rw (fails c.are_counters.ensures c.if-not-are_counters.true-raw) at is
+    rw (sym c.are_counters.ensures ∙ c.if-not-are_counters.true) at is
 
 pub returns-in_default : goal.returns-in_default
 unfolding default_told part

@@ -14,7 +14,7 @@ use Rattle.iptables_rule.proofs.Turns.{known}
 use Rattle.iptables_rule.proofs.Ruling.{stand, Parts, unread, low_above, read, Told, rule, told_parts, told_missing}
 use borrow.Author.Rules.{rules}
 use Rattle.iptables_rule.proofs.rule_of.Goals as goal
-use Rattle.iptables_rule.proofs.rule_of.Goals.{After-options_known, After-range_given-to, Else-not-all_read, Else-not-options_stand}
+use Rattle.iptables_rule.proofs.rule_of.Goals.{After-options_known, After-range_given-to, Else-not-all_read, Else-not-options_stand, then-not-options_known-via-then-not-options_known, then-not-options_known-via-else-not-options_known+then-not-options_stand}
 
 abbrev words : After-options_known → List (List ℕ)
 words c = let args = c.args in words_from args.at args.line.now
@@ -23,11 +23,11 @@ abbrev given : After-options_known → List Given
 given c = let args = c.args in given_from args.at args.line.now
 
 are_known : (c : Else-not-options_stand) → (even (words (goal.at.Else-not-options_stand c).After-options_known) ≡ true) × (known (given (goal.at.Else-not-options_stand c).After-options_known) ≡ true)
-are_known c = and_both _ _ (passes c.options_known.ensures c.then-not-options_known.false-raw)
+are_known c = and_both _ _ (sym c.options_known.ensures ∙ c.if-not-options_known.false)
 
 all_stand : (c : Else-not-options_stand) → stand (given (goal.at.Else-not-options_stand c).After-options_known) ≡ true
 unfolding text
-all_stand c = passes c.options_stand.ensures c.if-not-options_stand.false-raw
+all_stand c = sym c.options_stand.ensures ∙ c.if-not-options_stand.false
 
 told : (c : After-range_given-to)
     → Told (given (goal.at.After-range_given-to c).After-options_known) c.in-Is.action c.range_given-protocol.result
@@ -49,10 +49,12 @@ unfolding text given_from
 returns-then-not-options_known c =
     c.unread.ensures
     ∙ ap rule_read_told (sym (unread (words (goal.at.returns-then-not-options_known c).After-options_known) λ r whole parts.
-    ⊎_elim
-    (λ not_known. never (both_and whole parts.all_known) (fails c.options_known.ensures not_known.true))
-    (λ not_there. never parts.all_stand (fails not_there.1.ensures not_there.2.true))
-    c.then-not-options_known.branch))
+    elim c.then-not-options_known.branch [
+      then-not-options_known-via-then-not-options_known w ↦
+        never (both_and whole parts.all_known) (sym c.options_known.ensures ∙ w.if-not-options_known.true)
+    | then-not-options_known-via-else-not-options_known+then-not-options_stand w ↦
+        never parts.all_stand (sym w.options_stand.ensures ∙ w.if-not-options_stand.true)
+    ]))
 
 -- 57: not one target
 pub returns-in_default : goal.returns-in_default
@@ -68,11 +70,11 @@ unfolding given_from
 returns-then-not-all_read c =
     c.unread-then-not-all_read.ensures
     ∙ ap rule_read_told (sym (unread (words (goal.at.returns-then-not-all_read c).After-options_known) λ r whole parts.
-    told_missing (told (goal.at.returns-then-not-all_read c).After-range_given-to) (fails c.all_read.ensures c.if-not-all_read.true-raw) r parts))
+    told_missing (told (goal.at.returns-then-not-all_read c).After-range_given-to) (sym c.all_read.ensures ∙ c.if-not-all_read.true) r parts))
 
 parts : (c : Else-not-all_read) → Parts (given (goal.at.Else-not-all_read c).After-options_known) (rule (told (goal.at.Else-not-all_read c).After-range_given-to))
 parts c =
-    told_parts (told (goal.at.Else-not-all_read c).After-range_given-to) (are_known (goal.at.Else-not-all_read c).Else-not-options_stand).1 (all_stand (goal.at.Else-not-all_read c).Else-not-options_stand) (passes c.all_read.ensures c.if-not-all_read.false-raw)
+    told_parts (told (goal.at.Else-not-all_read c).After-range_given-to) (are_known (goal.at.Else-not-all_read c).Else-not-options_stand).1 (all_stand (goal.at.Else-not-all_read c).Else-not-options_stand) (sym c.all_read.ensures ∙ c.if-not-all_read.false)
 
 -- 58, or the rule
 pub returns-then-not-ports_rise : goal.returns-then-not-ports_rise
@@ -80,10 +82,10 @@ unfolding given_from
 returns-then-not-ports_rise c =
     c.unread-then-not-ports_rise.ensures
     ∙ ap rule_read_told (sym (low_above (words (goal.at.returns-then-not-ports_rise c).After-options_known) _ (are_known (goal.at.returns-then-not-ports_rise c).Else-not-options_stand).0 (parts (goal.at.returns-then-not-ports_rise c).Else-not-all_read)
-    (fails c.ports_rise.ensures c.if-not-ports_rise.true-raw)))
+    (sym c.ports_rise.ensures ∙ c.if-not-ports_rise.true)))
 
 pub returns : goal.returns
 unfolding given_from rule_read_told rule_or checking
 returns c =
-    let rises = passes c.ports_rise.ensures c.if-not-ports_rise.false-raw in
+    let rises = sym c.ports_rise.ensures ∙ c.if-not-ports_rise.false in
     rw (read (words (goal.at.returns c).After-options_known) _ (are_known (goal.at.returns c).Else-not-options_stand).0 (parts (goal.at.returns c).Else-not-all_read) rises, c.record_of.ensures) refl
