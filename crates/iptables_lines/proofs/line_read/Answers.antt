@@ -1,9 +1,8 @@
--- `line_read_lem` meets its contract: a line that starts with `*`, `COMMIT`, a line that is passed over, or one that is read by its words.
+-- `line_read` meets its contract: a line that starts with `*`, `COMMIT`, a line that is passed over, or one that is read by its words.
 -- Assumes nothing.
 use Prim.Native.Nat.{ℕ}
 use mathlib.Core.Path.{◌≡◌, sym, ◌∙◌, ap}
 use mathlib.Core.Bool.{true, false}
-use mathlib.Core.Logic.{⊎_elim}
 use mathlib.Core.List.{List}
 use Rattle.policy.specs.Lists.{same}
 use Rattle.lines.specs.Text.{text}
@@ -12,7 +11,7 @@ use Rattle.iptables_lines.specs.Told.{read_told}
 use Rattle.iptables_lines.proofs.Lines.{filter_opens, star_closes, commit_closes, empty_passed, comment_passed, words_line}
 use borrow.Author.Rules.{rules}
 use Rattle.iptables_lines.proofs.line_read.Goals as goal
-use Rattle.iptables_lines.proofs.line_read.Goals.{After-starts_with, Else-same_bytes, Else-starts_with, Then-starts_with}
+use Rattle.iptables_lines.proofs.line_read.Goals.{After-starts_with, Else-same_bytes, Else-starts_with, Then-starts_with, then-line-eq0-via-then-line-eq0, then-line-eq0-via-else-line-eq0+then-starts_with-2}
 
 -- the line is asked for a `*`, and compared with `COMMIT`
 abbrev line : After-starts_with → List ℕ
@@ -45,14 +44,16 @@ pub returns-then-line-eq0 : goal.returns-then-line-eq0
 returns-then-line-eq0 c =
     let s = line (goal.at.returns-then-line-eq0 c).After-starts_with in
     c.plain-then-line-eq0.ensures
-    ∙ ⊎_elim
-    (λ empty. empty_passed s (not_star (goal.at.returns-then-line-eq0 c).Else-starts_with) (not_commit (goal.at.returns-then-line-eq0 c).Else-same_bytes) empty.true)
-    (λ (some, asked, hash). comment_passed s (not_star (goal.at.returns-then-line-eq0 c).Else-starts_with) (not_commit (goal.at.returns-then-line-eq0 c).Else-same_bytes) some.false (sym asked.ensures ∙ hash.true))
-    c.then-line-eq0.branch
+    ∙ elim c.then-line-eq0.branch [
+      then-line-eq0-via-then-line-eq0 w ↦
+        empty_passed s (not_star (goal.at.returns-then-line-eq0 c).Else-starts_with) (not_commit (goal.at.returns-then-line-eq0 c).Else-same_bytes) w.if-line-eq0.true
+    | then-line-eq0-via-else-line-eq0+then-starts_with-2 w ↦
+        comment_passed s (not_star (goal.at.returns-then-line-eq0 c).Else-starts_with) (not_commit (goal.at.returns-then-line-eq0 c).Else-same_bytes) w.if-line-eq0.false (sym w.starts_with-else-line-eq0.ensures ∙ w.if-starts_with-2.true)
+    ]
 
 pub returns : goal.returns
 returns c =
     c.words_read.ensures
     ∙ ap read_told
-    (words_line (line (goal.at.returns c).After-starts_with) (not_star (goal.at.returns c).Else-starts_with) (not_commit (goal.at.returns c).Else-same_bytes) c.then-line-eq0.false
+    (words_line (line (goal.at.returns c).After-starts_with) (not_star (goal.at.returns c).Else-starts_with) (not_commit (goal.at.returns c).Else-same_bytes) c.if-line-eq0.false
     (sym c.starts_with-else-line-eq0.ensures ∙ c.if-starts_with-2.false))
