@@ -10,6 +10,6 @@ pub returns : goal.returns
 unfolding text ends_text rule_of
 returns c =
     let rule = rule_of c.args.rule.now in
-    puts_joined (text " c.before.before.before.before.before.before.before.before.before.before.before.before ") (end_text rule.source rule.source_port) c.put_end-next.ensures
-    (puts_joined (text " c.before.before.before.before.before.before ") (end_text rule.destination rule.destination_port) c.put_end-next-2.ensures
+    puts_joined (text " source ") (end_text rule.source rule.source_port) c.put_end-next.ensures
+    (puts_joined (text " destination ") (end_text rule.destination rule.destination_port) c.put_end-next-2.ensures
     c.put_sign.ensures)

@@ -13,4 +13,4 @@ returns c =
     let rule = rule_of c.args.rule.now in
     puts_more c.put_number-next.ensures
     (puts_more c.put_action-next.ensures
-    (puts_joined (text " c.before.before.before.before.before.before ") (range_text 1 rule.protocol) c.put_labelled-next.ensures c.put_ends.ensures))
+    (puts_joined (text " protocol ") (range_text 1 rule.protocol) c.put_labelled-next.ensures c.put_ends.ensures))

@@ -13,7 +13,6 @@ use Rattle.catalogue.proofs.Rules.{first_count, first_fits}
 use Rattle.lines.proofs.Lines.{Lines, no_lines, one_line, all_lines}
 use Rattle.rule_lines.specs.Text.{rule_text, rules_text}
 use Rattle.rule_lines.proofs.RuleLines.{next_rule}
-use borrow.Author.Rules.{rules}
 use Rattle.rule_lines.proofs.rules.put_rules.Goals as goal
 use Rattle.rule_lines.proofs.rules.put_rules.Goals.{In-loop-k}
 use Rattle.rule_lines.proofs.rules.put_rules.Invariants.{rules}
@@ -60,7 +59,7 @@ loop-k-preserved c =
     let k = c.loop-k.k in
     let start-at = k * 30 + 3 in
     let rule = rule_of (take (start-at + 27 - start-at) (drop start-at file)) in (
-      search rules,
+      omega arith,
       one_line rules_text 0 (rules file count) k c.loop-k.invariant.1 rule (rule_text k rule)
           (next_rule count file c.requires k c.loop-k-test.true) (rw add-zero) c.put_rule-next.ensures,
     )

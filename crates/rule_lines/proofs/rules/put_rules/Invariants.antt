@@ -11,7 +11,6 @@ use Rattle.catalogue.proofs.Rules.{first_count, first_fits}
 use Rattle.lines.proofs.Lines.{Lines, no_lines, one_line, all_lines}
 use Rattle.rule_lines.specs.Text.{rule_text, rules_text}
 use Rattle.rule_lines.proofs.RuleLines.{next_rule}
-use borrow.Author.Rules.{rules}
 use Rattle.rule_lines.proofs.rules.put_rules.Given as goal
 
 -- the rules that are shown
