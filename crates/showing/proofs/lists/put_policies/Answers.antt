@@ -11,5 +11,5 @@ pub returns : goal.returns
 unfolding text policies_text
 returns c =
     let args = c.args in
-    puts_joined (text "c.before.before.before.before.before.before.before.before") (list_text (numbers_of (value_at args.initial args.file.now))) c.put_list-next.ensures
+    puts_joined (text "initial") (list_text (numbers_of (value_at args.initial args.file.now))) c.put_list-next.ensures
     c.put_list.ensures
