@@ -1,6 +1,6 @@
 -- `script_checked` meets its contract: its tests are those of the definition, one after another: the length, the type, the commands.
 -- Assumes nothing.
-use Prim.Native.Nat.{◌≤◌}
+use Prim.Native.Nat.{ℕ, ◌≤◌}
 use native.Mathlib.Omega.{arith}
 use mathlib.Core.Path.{◌≡◌, sym}
 use mathlib.Core.Bool.{true}
@@ -18,14 +18,19 @@ use borrow.Author.Rules.{rules}
 use Rattle.values.proofs.script_checked.Goals as goal
 use Rattle.values.proofs.script_checked.Goals.{After-shared_slice_known-2-1, Else-not-is_type}
 
+-- where the length is right there is a type byte
+at_least_one : (size : ℕ) → script_fits size ≡ true → 1 ≤ size
+at_least_one size right = let h = (says_script size).0 right in omega (arith, h.1)
+
+pub bounds-value-0 : goal.bounds-value-0
+bounds-value-0 c = at_least_one _ (passes c.script_fits.ensures c.if-not-script_fits.false-raw)
+
 -- after the first test the length is right, so there is a type byte
 long : (c : After-shared_slice_known-2-1) → script_fits (length c.args.value.now) ≡ true
 long c = passes c.script_fits.ensures c.if-not-script_fits.false-raw
 
 typed_at : (c : After-shared_slice_known-2-1) → 1 ≤ length c.args.value.now
-typed_at c =
-    let right = (says_script (length c.args.value.now)).0 (long c) in
-    omega (arith, right.1)
+typed_at c = at_least_one _ (long c)
 
 pub returns-then-not-script_fits : goal.returns-then-not-script_fits
 unfolding checking script_value

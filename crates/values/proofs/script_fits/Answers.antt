@@ -3,16 +3,19 @@
 use Prim.Native.Nat.{◌-◌, ◌%◌}
 use mathlib.Core.Path.{◌≡◌, ◌∙◌}
 use mathlib.Core.Bool.{◌&&◌}
-use mathlib.Core.Logic.{⊎_elim}
 use lib.Dec.{eqb, leb}
 use borrow.Author.Tests.{le-leb, lt-leb}
 use Rattle.deployment.specs.Values.{script_fits}
 use Rattle.values.proofs.script_fits.Goals as goal
-use Rattle.values.proofs.script_fits.Goals.{Joined-size-ge1}
+use Rattle.values.proofs.script_fits.Goals.{Joined-size-ge1, then-size-ge1, else-size-ge1}
 
 two_tests : (c : Joined-size-ge1) → c.if-size-ge1.value ≡ (leb 1 c.args.size && eqb ((c.args.size - 1) % 5) 0)
 two_tests c =
-    ⊎_elim (λ w. rw (le-leb 1 c.args.size w.0.true) w.1) (λ w. rw (lt-leb 1 c.args.size w.0.false) (w.1 ∙ lt-leb 1 c.args.size w.0.false)) c.if-size-ge1.branch
+    elim c.if-size-ge1.branch [
+      then-size-ge1 w ↦ rw (le-leb 1 c.args.size w.if-size-ge1.true) w.value-is
+      | else-size-ge1 w ↦
+        rw (lt-leb 1 c.args.size w.if-size-ge1.false) (w.value-is ∙ lt-leb 1 c.args.size w.if-size-ge1.false)
+    ]
 
 pub returns-then-size-eq0 : goal.returns-then-size-eq0
 unfolding script_fits
