@@ -20,6 +20,8 @@ PLAIN = {
     "flow-bytes": "flow_width",
     "rule-bytes": "rule_width",
 }
+# These are turned wherever they stand, as names of arguments too.
+EVERYWHERE = {**PLAIN, "source-port": "source_port", "destination-port": "destination_port"}
 TOKEN = re.compile(r"[^\s(){}\[\];,.:\"`]+")
 DECLARED = re.compile(r"^(\s*)((?:pub |unfoldable |abbrev )*)([^\s:()←→{}]+)(?: *(?:[({].*)?)? :(?: |$)")
 LET = re.compile(r"\blet ([^\s:()={}]+)(?= [:=])")
@@ -108,9 +110,9 @@ def turned(text, here, anywhere, comment_too=True):
                 stem = re.search(r"([^\s(){}\[\];,.:\"`]+)\.$", before)
                 module = bool(stem) and stem.group(1)[:1].isupper()
                 return anywhere.get(word, word) if (word in FIELDS or module and word in here) else word
-            if word in here:
-                return here[word]
-            if word in FIELDS and re.match(r"\s*=(\s|$)", code[m.end() :]):
+            if word in here or word in EVERYWHERE:
+                return {**EVERYWHERE, **here}[word]
+            if word in FIELDS and re.match(r"\s*=(\s|$)", code[m.end() :]) and re.search(r"(^|[{;])\s*$", before):
                 return anywhere.get(word, word)
             return word
 

@@ -61,8 +61,8 @@ deciding_values rules value value_of_default = do
   good (λ flow. decide (matching passed.0 flow) passed.1)
 
 unfoldable pub decided_values : List ℕ → List ℕ → Option (List ℕ) → Flow → Checked Decision
-decided_values rules value default-value flow = do
-  decides ← deciding_values rules value default-value
+decided_values rules value value_of_default flow = do
+  decides ← deciding_values rules value value_of_default
   good (decides flow)
 
 unfoldable pub decided_at_zero : Checked Decision → Decided
@@ -85,8 +85,8 @@ replayed_reading reading place = answered (λ c. replay_left place (replayed_con
 
 -- the same tests before those of the script; a command edits the list and leaves the default
 unfoldable pub replayed_values : List ℕ → List ℕ → Option (List ℕ) → List ℕ → Checked Replayed
-replayed_values rules initial default-value script = do
-  passed ← policy_tested rules initial default-value
+replayed_values rules initial value_of_default script = do
+  passed ← policy_tested rules initial value_of_default
   replayed_over (length passed.0) initial script
 
 -- a plan

@@ -103,17 +103,17 @@ rule_given given = do
   action ← target_given (words_at (text "-j") given)
   protocol ← range_given Protocol (text "-p") given
   source ← range_given Address (text "-s") given
-  source-port ← range_given Port (text "--sport") given
+  source_port ← range_given Port (text "--sport") given
   destination ← range_given Address (text "-d") given
-  destination-port ← range_given Port (text "--dport") given
+  destination_port ← range_given Port (text "--dport") given
   require (port_fits (text "--sport") given && port_fits (text "--dport") given && module_fits given) NotRead
   good (record {
     action = action;
     protocol = protocol;
     source = source;
-    source_port = source-port;
+    source_port = source_port;
     destination = destination;
-    destination_port = destination-port;
+    destination_port = destination_port;
   })
 
 -- "58 for a low above its high, tested after 57 of the whole line": the words behind `-A FORWARD`
