@@ -1,4 +1,5 @@
 -- `command_of` meets its contract: the tests of the definition, each by the tests that led there. Assumes nothing.
+use native.Mathlib.Omega.{arith}
 use mathlib.Core.Bool.{and-false}
 use borrow.Author.Tests.{ne_eqb}
 use Rattle.deployment.specs.Values.{command_of}
@@ -39,9 +40,9 @@ pub returns-in_default : goal.returns-in_default
 unfolding command_of decoded
 returns-in_default c =
     simp (
-      ne_eqb _ 1 c.in_default.in_default-own.rest.0.0.1,
-      ne_eqb _ 2 c.in_default.in_default-own.rest.0.1,
-      ne_eqb _ 4 c.in_default.in_default-own.rest.1,
+      ne_eqb c.args.code 1 (λ e. omega arith),
+      ne_eqb c.args.code 2 (λ e. omega arith),
+      ne_eqb c.args.code 4 (λ e. omega arith),
       ne_eqb _ 3 c.if-code-eq-INS.false,
       ne_eqb _ 5 c.if-code-eq-MOV.false,
     )

@@ -1,4 +1,5 @@
 -- `decode` meets its contract: the type's test, then the command of the code. Assumes nothing.
+use mathlib.Core.Path.{sym, ◌∙◌}
 use Rattle.policy.proofs.Tests.{fails, passes}
 use Rattle.deployment.specs.Values.{command_from}
 use Rattle.deployment.specs.Commands.{decoded}
@@ -7,8 +8,8 @@ use Rattle.commands.proofs.decode.Goals as goal
 
 pub returns-then-not-allows : goal.returns-then-not-allows
 unfolding command_from decoded
-returns-then-not-allows c = rw (fails c.allows.ensures c.if-not-allows.true-raw)
+returns-then-not-allows c = rw (sym c.allows.ensures ∙ c.if-not-allows.true)
 
 pub returns : goal.returns
 unfolding command_from
-returns c = rw (passes c.allows.ensures c.if-not-allows.false-raw) c.command_of.ensures
+returns c = rw (sym c.allows.ensures ∙ c.if-not-allows.false) c.command_of.ensures

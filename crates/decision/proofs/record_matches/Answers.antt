@@ -1,5 +1,5 @@
 -- `record_matches` meets its contract: each return has what the tests before it say, and a test that fails decides. Assumes nothing.
-use mathlib.Core.Path.{◌≡◌}
+use mathlib.Core.Path.{◌≡◌, sym, ◌∙◌}
 use mathlib.Core.Bool.{true}
 use Rattle.policy.specs.Rule.{lies, matches}
 use Rattle.deployment.specs.Values.{rule_of, range_at}
@@ -12,31 +12,31 @@ use Rattle.decision.proofs.record_matches.Goals.{Else-not-lies_four, Else-not-li
 past_protocol : (c : Else-not-lies_one)
     → let a = c.args in
     lies a.flow.protocol (range_at 1 1 a.rule.now) ≡ true
-past_protocol c = passes c.lies_one.ensures c.if-not-lies_one.false-raw
+past_protocol c = sym c.lies_one.ensures ∙ c.if-not-lies_one.false
 
 past_source : (c : Else-not-lies_four)
     → let a = c.args in
     lies a.flow.source (range_at 3 4 a.rule.now) ≡ true
-past_source c = passes c.lies_four.ensures c.if-not-lies_four.false-raw
+past_source c = sym c.lies_four.ensures ∙ c.if-not-lies_four.false
 
 past_source_port : (c : Else-not-lies_two)
     → let a = c.args in
     lies a.flow.source_port (range_at 11 2 a.rule.now) ≡ true
-past_source_port c = passes c.lies_two.ensures c.if-not-lies_two.false-raw
+past_source_port c = sym c.lies_two.ensures ∙ c.if-not-lies_two.false
 
 past_destination : (c : Else-not-lies_four-2)
     → let a = c.args in
     lies a.flow.destination (range_at 15 4 a.rule.now) ≡ true
-past_destination c = passes c.lies_four-2.ensures c.if-not-lies_four-2.false-raw
+past_destination c = sym c.lies_four-2.ensures ∙ c.if-not-lies_four-2.false
 
 pub returns-then-not-lies_one : goal.returns-then-not-lies_one
 unfolding matches rule_of
-returns-then-not-lies_one c = rw (fails c.lies_one.ensures c.if-not-lies_one.true-raw)
+returns-then-not-lies_one c = rw (sym c.lies_one.ensures ∙ c.if-not-lies_one.true)
 
 pub returns-then-not-lies_four : goal.returns-then-not-lies_four
 unfolding matches rule_of
 returns-then-not-lies_four c =
-    rw (past_protocol (goal.at.returns-then-not-lies_four c).Else-not-lies_one, fails c.lies_four.ensures c.if-not-lies_four.true-raw)
+    rw (past_protocol (goal.at.returns-then-not-lies_four c).Else-not-lies_one, sym c.lies_four.ensures ∙ c.if-not-lies_four.true)
 
 pub returns-then-not-lies_two : goal.returns-then-not-lies_two
 unfolding matches rule_of
@@ -44,7 +44,7 @@ returns-then-not-lies_two c =
     rw (
       past_protocol (goal.at.returns-then-not-lies_two c).Else-not-lies_one,
       past_source (goal.at.returns-then-not-lies_two c).Else-not-lies_four,
-      fails c.lies_two.ensures c.if-not-lies_two.true-raw,
+      sym c.lies_two.ensures ∙ c.if-not-lies_two.true,
     )
 
 pub returns-then-not-lies_four-2 : goal.returns-then-not-lies_four-2
@@ -54,7 +54,7 @@ returns-then-not-lies_four-2 c =
       past_protocol (goal.at.returns-then-not-lies_four-2 c).Else-not-lies_one,
       past_source (goal.at.returns-then-not-lies_four-2 c).Else-not-lies_four,
       past_source_port (goal.at.returns-then-not-lies_four-2 c).Else-not-lies_two,
-      fails c.lies_four-2.ensures c.if-not-lies_four-2.true-raw,
+      sym c.lies_four-2.ensures ∙ c.if-not-lies_four-2.true,
     )
 
 pub returns : goal.returns

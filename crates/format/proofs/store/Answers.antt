@@ -32,7 +32,7 @@ pub bounds-place-at : goal.bounds-place-at
 bounds-place-at c =
     let at-loop = c.loop-k in
     let args = c.args in
-    omega (arith, at-loop.invariant.3, ltb-true at-loop.k (length args.place.now - args.at) c.if-k-room.true-raw)
+    omega (arith, at-loop.invariant.3, c.if-k-room.true)
 
 pub overflow_add-k : goal.overflow_add-k
 overflow_add-k c = omega arith
@@ -60,7 +60,7 @@ returns-else-k-room c =
     let at-loop = c.loop-k in
     let args = c.args in
     at-loop.invariant.1
-    ∙ copied_all args.place.now args.at args.value.now at-loop.k at-loop.invariant.0 (inr (omega (arith, at-loop.invariant.3, ltb-false at-loop.k (length args.place.now - args.at) c.if-k-room.false-raw)))
+    ∙ copied_all args.place.now args.at args.value.now at-loop.k at-loop.invariant.0 (inr (omega (arith, at-loop.invariant.3, c.if-k-room.false)))
 
 pub shape_of-place-after-loop-k : goal.shape_of-place-after-loop-k
 shape_of-place-after-loop-k c = c.loop-k.invariant.2

@@ -100,7 +100,7 @@ ended c =
 
 pub returns-then-not-ends_at : goal.returns-then-not-ends_at
 returns-then-not-ends_at c =
-    sym (rw (fails c.ends_at.ensures c.if-not-ends_at.true-raw) at (ended (goal.at.returns-then-not-ends_at c).After-ends_at))
+    sym (rw (sym c.ends_at.ensures ∙ c.if-not-ends_at.true) at (ended (goal.at.returns-then-not-ends_at c).After-ends_at))
 
 pub returns : goal.returns
-returns c = sym (rw (passes c.ends_at.ensures c.if-not-ends_at.false-raw) at (ended (goal.at.returns c).After-ends_at))
+returns c = sym (rw (sym c.ends_at.ensures ∙ c.if-not-ends_at.false) at (ended (goal.at.returns c).After-ends_at))

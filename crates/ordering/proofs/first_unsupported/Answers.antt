@@ -76,7 +76,7 @@ places-preserved c =
     let initial = numbers_of c.args.initial.now in
     let target = numbers_of c.args.target.now in
     let inside = c.places-test.true in
-    let next = sym c.is_next.ensures ∙ not-false c.is_next.result c.loop-next_a-test.false-raw in (
+    let next = sym c.is_next.ensures ∙ c.loop-next_a-test.false in (
       omega arith,
       c.places.invariant.1
           ∙ failing_later (supported initial target l) l c.places.k inside

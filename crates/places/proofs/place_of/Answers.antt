@@ -9,4 +9,4 @@ pub returns-then-places-at : goal.returns-then-places-at
 returns-then-places-at c = sym (get_or-eq_default c.args.places.now 0 c.if-places-at.true)
 
 pub overflow_cast-result : goal.overflow_cast-result
-overflow_cast-result c = omega (arith, c.shared_slice_known-1.given c.args.r)
+overflow_cast-result c = omega (arith, c.type_inv.places c.args.r)

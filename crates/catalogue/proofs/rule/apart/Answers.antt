@@ -71,8 +71,7 @@ differs c not_found =
     let rules = a.rules.now in
     let cells = c.loop-k.cells in
     let m = c.mark_of-mark.result in
-    let known_bytes = c.shared_slice_known-1 in
-    let are : AreBytes rules = elements_are_bytes rules (λ i. omega (arith, known_bytes.given i)) in
+    let are : AreBytes rules = elements_are_bytes rules (λ i. omega (arith, c.type_inv.rules i)) in
     let suspected : c.may_hold.result ≡ holds_mark cells m =
     c.may_hold.ensures ∙ ap (λ tag. may_hold (get_or cells (m / 256) 0) tag) c.tag_of-tag.ensures in
     unless_suspect c.may_hold.result _

@@ -18,13 +18,13 @@ pub bounds-rule-k : goal.bounds-rule-k
 bounds-rule-k c = omega arith
 
 pub overflow_cast-mixed : goal.overflow_cast-mixed
-overflow_cast-mixed c = omega (arith, c.shared_slice_known-in-loop-k-1.given c.loop-k.k)
+overflow_cast-mixed c = omega (arith, c.type_inv.rule c.loop-k.k)
 
 pub overflow_add-mixed : goal.overflow_add-mixed
-overflow_add-mixed c = omega (arith, c.shared_slice_known-in-loop-k-1.given c.loop-k.k)
+overflow_add-mixed c = omega (arith, c.type_inv.rule c.loop-k.k)
 
 pub overflow_mul-mixed : goal.overflow_mul-mixed
-overflow_mul-mixed c = omega (arith, c.shared_slice_known-in-loop-k-1.given c.loop-k.k)
+overflow_mul-mixed c = omega (arith, c.type_inv.rule c.loop-k.k)
 
 pub overflow_add-k : goal.overflow_add-k
 overflow_add-k c = omega arith

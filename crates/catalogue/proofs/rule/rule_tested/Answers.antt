@@ -43,14 +43,14 @@ returns-then-rule-ne-RULE_BYTES c = rw (ne_eqb _ 27 c.if-rule-ne-RULE_BYTES.true
 
 pub returns-then-not-rule_fits : goal.returns-then-not-rule_fits
 unfolding checking rule_value rule_read
-returns-then-not-rule_fits c = rw (eq-eqb _ 27 c.if-rule-ne-RULE_BYTES.false, fails c.rule_fits.ensures c.if-not-rule_fits.true-raw)
+returns-then-not-rule_fits c = rw (eq-eqb _ 27 c.if-rule-ne-RULE_BYTES.false, sym c.rule_fits.ensures ∙ c.if-not-rule_fits.true)
 
 pub returns-then-known_if : goal.returns-then-known_if
 unfolding checking rule_value rule_read
 returns-then-known_if c =
     rw (
       eq-eqb _ 27 c.if-rule-ne-RULE_BYTES.false,
-      passes c.rule_fits.ensures c.if-not-rule_fits.false-raw,
+      sym c.rule_fits.ensures ∙ c.if-not-rule_fits.false,
       sym (known_is (goal.at.returns-then-known_if c).After-known_if) ∙ c.if-known_if.true,
     )
 
@@ -59,6 +59,6 @@ unfolding checking rule_value rule_read
 returns c =
     rw (
       eq-eqb _ 27 c.if-rule-ne-RULE_BYTES.false,
-      passes c.rule_fits.ensures c.if-not-rule_fits.false-raw,
+      sym c.rule_fits.ensures ∙ c.if-not-rule_fits.false,
       sym (known_is (goal.at.returns c).After-known_if) ∙ c.if-known_if.false,
     )

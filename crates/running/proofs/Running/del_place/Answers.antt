@@ -2,8 +2,8 @@
 -- Assumes nothing.
 use Prim.Native.Nat.{◌≤◌, ◌<◌}
 use native.Mathlib.Omega.{arith}
-use mathlib.Core.Path.{◌≡◌, ◌∙◌}
-use mathlib.Core.Bool.{true}
+use mathlib.Core.Path.{◌≡◌, ◌∙◌, ap}
+use mathlib.Core.Bool.{true, not}
 use lib.ListN.{length}
 use Rattle.policy.specs.Command.{within}
 use Rattle.running.specs.Running.{view, place_deleted}
@@ -16,11 +16,11 @@ pub returns-then-not-in_range : goal.returns-then-not-in_range
 unfolding place_deleted
 returns-then-not-in_range c =
     c.refused.ensures
-    ∙ fails _ _ _ (out_of_range _ c.in_range.ensures c.count-len.ensures c.if-not-in_range.true-raw)
+    ∙ fails _ _ _ (out_of_range _ c.in_range.ensures c.count-len.ensures (ap not c.if-not-in_range.true))
 
 -- the test passed
 within_list : (c : Else-not-in_range) → within c.args.i (length (view c.args.self)) ≡ true
-within_list c = in_range _ c.in_range.ensures c.count-len.ensures c.if-not-in_range.false-raw
+within_list c = in_range _ c.in_range.ensures c.count-len.ensures (ap not c.if-not-in_range.false)
 
 bounds : (c : Else-not-in_range) → (0 < c.args.i) × (c.args.i ≤ c.count-len.result) × (c.count-len.result ≤ 1024)
 bounds c =

@@ -2,8 +2,8 @@
 -- one closed. Assumes nothing.
 use Prim.Native.Nat.{◌≤◌, ◌<◌}
 use native.Mathlib.Omega.{arith}
-use mathlib.Core.Path.{◌≡◌, ◌∙◌}
-use mathlib.Core.Bool.{true}
+use mathlib.Core.Path.{◌≡◌, ◌∙◌, ap}
+use mathlib.Core.Bool.{true, not}
 use borrow.Author.Tests.{lt-ltb, le-ltb}
 use lib.ListN.{length}
 use Rattle.policy.specs.Command.{within}
@@ -19,13 +19,13 @@ returns-then-size-r c = c.refused.ensures ∙ fails _ _ _ (le-ltb _ _ c.if-size-
 
 -- the test passed: a place of the list, and a slot of the array
 within_list : (c : Else-not-in_range) → within c.args.place (length (view c.args.self)) ≡ true
-within_list c = in_range _ c.in_range.ensures c.count-len.ensures c.if-not-in_range.false-raw
+within_list c = in_range _ c.in_range.ensures c.count-len.ensures (ap not c.if-not-in_range.false)
 
 pub returns-then-not-in_range : goal.returns-then-not-in_range
 unfolding rule_deleted
 returns-then-not-in_range c =
     c.refused-then-not-in_range.ensures
-    ∙ fails _ _ _ (out_of_range _ c.in_range.ensures c.count-len.ensures c.if-not-in_range.true-raw)
+    ∙ fails _ _ _ (out_of_range _ c.in_range.ensures c.count-len.ensures (ap not c.if-not-in_range.true))
     ∙ goes _ _ _ (lt-ltb _ _ c.if-size-r.false)
 
 bounds : (c : Else-not-in_range) →

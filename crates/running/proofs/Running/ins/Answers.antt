@@ -4,7 +4,7 @@ use Prim.Native.Nat.{suc, ◌+◌, ◌≤◌, ◌<◌}
 use native.Mathlib.Omega.{arith}
 use native.Mathlib.Numerals.{add-one}
 use mathlib.Core.Path.{◌≡◌, ◌∙◌, ap}
-use mathlib.Core.Bool.{true}
+use mathlib.Core.Bool.{true, not}
 use borrow.Author.Tests.{lt-ltb, le-ltb, eq-eqb, ne_eqb}
 use lib.ListN.{length}
 use Rattle.policy.specs.Command.{within, failed}
@@ -35,12 +35,12 @@ pub returns-then-not-in_range : goal.returns-then-not-in_range
 unfolding inserted
 returns-then-not-in_range c =
     c.refused-then-not-in_range.ensures
-    ∙ fails _ _ _ (out_of_range _ c.in_range.ensures (top (goal.at.returns-then-not-in_range c).After-count-len) c.if-not-in_range.true-raw)
+    ∙ fails _ _ _ (out_of_range _ c.in_range.ensures (top (goal.at.returns-then-not-in_range c).After-count-len) (ap not c.if-not-in_range.true))
     ∙ goes _ _ _ (lt-ltb _ _ c.if-size-r.false)
 
 -- the test passed
 within_list : (c : Else-not-in_range) → within c.args.i (suc (length (view c.args.self))) ≡ true
-within_list c = in_range _ c.in_range.ensures (top (goal.at.Else-not-in_range c).After-count-len) c.if-not-in_range.false-raw
+within_list c = in_range _ c.in_range.ensures (top (goal.at.Else-not-in_range c).After-count-len) (ap not c.if-not-in_range.false)
 
 pub returns-then-place-ne0 : goal.returns-then-place-ne0
 unfolding inserted

@@ -2,8 +2,8 @@
 -- then one opened. Assumes nothing.
 use Prim.Native.Nat.{◌≤◌, ◌<◌}
 use native.Mathlib.Omega.{arith}
-use mathlib.Core.Path.{◌≡◌, ◌∙◌}
-use mathlib.Core.Bool.{true}
+use mathlib.Core.Path.{◌≡◌, ◌∙◌, ap}
+use mathlib.Core.Bool.{true, not}
 use lib.ListN.{length}
 use Rattle.policy.specs.Command.{within}
 use Rattle.running.specs.Running.{view, relocated}
@@ -16,21 +16,21 @@ pub returns-then-not-in_range : goal.returns-then-not-in_range
 unfolding relocated
 returns-then-not-in_range c =
     c.refused.ensures
-    ∙ fails _ _ _ (rw (out_of_range _ c.in_range.ensures c.count-len.ensures c.if-not-in_range.true-raw))
+    ∙ fails _ _ _ (rw (out_of_range _ c.in_range.ensures c.count-len.ensures (ap not c.if-not-in_range.true)))
 
 -- the first test passed
 from_list : (c : Else-not-in_range) → within c.args.i (length (view c.args.self)) ≡ true
-from_list c = in_range _ c.in_range.ensures c.count-len.ensures c.if-not-in_range.false-raw
+from_list c = in_range _ c.in_range.ensures c.count-len.ensures (ap not c.if-not-in_range.false)
 
 -- the second test passed
 to_list : (c : Else-not-in_range-2) → within c.args.j (length (view c.args.self)) ≡ true
-to_list c = in_range _ c.in_range-2.ensures c.count-len.ensures c.if-not-in_range-2.false-raw
+to_list c = in_range _ c.in_range-2.ensures c.count-len.ensures (ap not c.if-not-in_range-2.false)
 
 pub returns-then-not-in_range-2 : goal.returns-then-not-in_range-2
 unfolding relocated
 returns-then-not-in_range-2 c =
     c.refused-then-not-in_range-2.ensures
-    ∙ fails _ _ _ (rw (from_list (goal.at.returns-then-not-in_range-2 c).Else-not-in_range, out_of_range _ c.in_range-2.ensures c.count-len.ensures c.if-not-in_range-2.true-raw))
+    ∙ fails _ _ _ (rw (from_list (goal.at.returns-then-not-in_range-2 c).Else-not-in_range, out_of_range _ c.in_range-2.ensures c.count-len.ensures (ap not c.if-not-in_range-2.true)))
 
 from : (c : Else-not-in_range-2) →
     (0 < c.args.i)
