@@ -20,7 +20,7 @@ use Rattle.replay.proofs.Steps.{step_failed, step_passed, step_sound}
 use Rattle.replay.proofs.Scripts.{never_wrong}
 use Rattle.judge.proofs.Verdicts.{rest, verdict_rest, passes_on, breaks_off, comes_to, judging, starts}
 use Rattle.judge.proofs.verdict_of.Goals as goal
-use Rattle.judge.proofs.verdict_of.Goals.{After-ends_at, After-start-state, After-state-1, In-loop-k}
+use Rattle.judge.proofs.verdict_of.Goals.{After-ends_at, After-start-state, In_default-refusal, In-loop-k}
 
 -- the first list is the initial policy
 started : (c : After-start-state)
@@ -61,7 +61,7 @@ returns-in-Failed c =
     (step_failed c.args.size l c.loop-k.state.places.of c.loop-k.invariant.1 _ c.step-s.result c.step-s.ensures _ c.in-Failed.is)
 
 -- the state after a command that passes
-next_sound : (c : After-state-1)
+next_sound : (c : In_default-refusal)
     → Sound c.args.size (view c.step-s.result.state.list) c.step-s.result.state.places.of
 next_sound c =
     step_sound c.args.size (view c.loop-k.state.list) c.loop-k.state.places.of c.loop-k.invariant.1 _ c.step-s.result c.step-s.ensures
@@ -70,7 +70,7 @@ next_sound c =
 pub note_state-found-requires-in-loop-k : goal.note_state-found-requires-in-loop-k
 note_state-found-requires-in-loop-k c =
     judging c.args.size (numbers_of c.args.initial.now) (numbers_of c.args.target.now) c.step-s.result.state.places.of
-    (view c.step-s.result.state.list) c.requires.1 c.requires.2 (next_sound c)
+    (view c.step-s.result.state.list) c.requires.1 c.requires.2 (next_sound (goal.at.note_state-found-requires-in-loop-k c).In_default-refusal)
 
 pub loop-k-smaller : goal.loop-k-smaller
 loop-k-smaller c = omega arith
@@ -79,7 +79,7 @@ pub loop-k-preserved : goal.loop-k-preserved
 loop-k-preserved c =
     let l = view c.loop-k.state.list in (
       omega arith,
-      next_sound (goal.at.loop-k-preserved c).After-state-1,
+      next_sound (goal.at.loop-k-preserved c).In_default-refusal,
       rw c.note_state-found-in-loop-k.ensures
           (passes_on (numbers_of c.args.initial.now) (numbers_of c.args.target.now) c.args.size c.args.script.now c.requires.3
           c.loop-k.found c.loop-k.k l c.loop-k.invariant.2 _ (inside (goal.at.loop-k-preserved c).In-loop-k) (sym c.in-Is.is ∙ c.command_at.ensures) _

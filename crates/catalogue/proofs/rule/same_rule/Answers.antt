@@ -1,11 +1,11 @@
 -- `same_rule` meets its contract: equal actions, and the same bytes behind them. Assumes nothing.
 use native.Mathlib.Omega.{arith}
 use mathlib.Core.Path.{◌≡◌}
-use Prim.Native.Nat.{ℕ}
+use Prim.Native.Nat.{ℕ, ◌<◌}
 use mathlib.Core.List.{List}
 use mathlib.Core.Bool.{Bool, ◌&&◌, beq}
 use lib.Dec.{eqb}
-use lib.ListN.{drop, get_or}
+use lib.ListN.{drop, get_or, length}
 use borrow.Author.Tests.{not-true, not-false}
 use Rattle.policy.specs.Lists.{same}
 use Rattle.deployment.specs.Values.{rule_of, same_rule}
@@ -14,33 +14,25 @@ use Rattle.deployment.proofs.Records.{part_to_end}
 use Rattle.catalogue.proofs.Rules.{same_rule_bytes}
 use borrow.Author.Rules.{rules}
 use Rattle.catalogue.proofs.rule.same_rule.Goals as goal
-use Rattle.catalogue.proofs.rule.same_rule.Goals.{After-shared_slice_known-2-1}
 
 -- the test of the actions, and what is compared of the rules
 actions : List ℕ → List ℕ → Bool
 actions a b = beq (eqb (get_or a 0 0) 1) (eqb (get_or b 0 0) 1)
 
-compared : (c : After-shared_slice_known-2-1)
-    → let a = c.args.a.now in
-    let b = c.args.b.now in
-    same_rule (rule_of a) (rule_of b) ≡ (actions a b && same (drop 1 a) (drop 1 b))
+compared : (a b : List ℕ) → ((i : ℕ) → get_or a i 0 < 256) → ((i : ℕ) → get_or b i 0 < 256) → length a ≡ 27 → length b ≡ 27
+    → same_rule (rule_of a) (rule_of b) ≡ (actions a b && same (drop 1 a) (drop 1 b))
 unfolding actions
-compared c =
-    let args = c.args in
-    same_rule_bytes args.a.now args.b.now
-    (elements_are_bytes args.a.now (λ i. omega (arith, c.shared_slice_known-1.given i)))
-    (elements_are_bytes args.b.now (λ i. omega (arith, c.shared_slice_known-2-1.given i)))
-    c.requires.0 c.requires.1
+compared a b are_a are_b = same_rule_bytes a b (elements_are_bytes a are_a) (elements_are_bytes b are_b)
 
 pub returns-then-a-b : goal.returns-then-a-b
 unfolding actions
 returns-then-a-b c =
     let args = c.args in
-    rw (compared (goal.at.returns-then-a-b c).After-shared_slice_known-2-1, not-true (actions args.a.now args.b.now) c.if-a-b.true)
+    rw (compared args.a.now args.b.now (λ i. omega (arith, c.type_inv.a i)) (λ i. omega (arith, c.type_inv.b i)) c.requires.0 c.requires.1, not-true (actions args.a.now args.b.now) c.if-a-b.true)
 
 pub returns : goal.returns
 unfolding actions
 returns c =
     let args = c.args in
-    rw (compared (goal.at.returns c).After-shared_slice_known-2-1, not-false (actions args.a.now args.b.now) c.if-a-b.false)
+    rw (compared args.a.now args.b.now (λ i. omega (arith, c.type_inv.a i)) (λ i. omega (arith, c.type_inv.b i)) c.requires.0 c.requires.1, not-false (actions args.a.now args.b.now) c.if-a-b.false)
     (rw (part_to_end 1 args.a.now, part_to_end 1 args.b.now) at c.same_bytes.ensures)
