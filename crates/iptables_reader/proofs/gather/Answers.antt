@@ -12,10 +12,10 @@ use Rattle.iptables_reader.proofs.gather.Goals.{After-stepped-step, At-loop-end}
 
 -- the lists with one line more
 abbrev marks_after : After-stepped-step → List ℕ
-marks_after c = c.stepped-step.new.1.1.1.1.0
+marks_after c = c.stepped-step.new.marks
 
 abbrev starts_after : After-stepped-step → List ℕ
-starts_after c = c.stepped-step.new.1.1.1.1.1.0
+starts_after c = c.stepped-step.new.starts
 
 pub loop-end-init : goal.loop-end-init
 loop-end-init c =

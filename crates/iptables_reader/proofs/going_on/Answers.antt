@@ -1,4 +1,4 @@
--- `going_on_lem` meets its contract: by computing. Assumes nothing.
+-- `going_on` meets its contract: by computing. Assumes nothing.
 use mathlib.Core.Path.{refl}
 use Rattle.iptables_reader.specs.Gathering.{going_on}
 use Rattle.iptables_reader.proofs.going_on.Goals as goal

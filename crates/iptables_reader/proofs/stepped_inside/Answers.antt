@@ -18,58 +18,57 @@ use Rattle.iptables_reader.proofs.Stepping.{
   stepped_turned,
   stepped_default,
   stepped_rule,
-use Rattle.iptables_reader.proofs.stepped_inside.Goals as goal
-use Rattle.iptables_reader.proofs.stepped_inside.Goals.{After-bytes-1, After-keep-arg-in-Rule-1}
-
 }
+use Rattle.iptables_reader.proofs.stepped_inside.Goals as goal
+use Rattle.iptables_reader.proofs.stepped_inside.Goals.{After-line_read-read, In-Rule}
 
-abbrev line : After-bytes-1 → List ℕ
+abbrev line : After-line_read-read → List ℕ
 line c = line_at c.args.start c.args.listing.now
 
-read_is : (c : After-bytes-1) → c.line_read-read.result ≡ read_told (line_read (line c))
+read_is : (c : After-line_read-read) → c.line_read-read.result ≡ read_told (line_read (line c))
 read_is c =
     let a = c.args in
     c.line_read-read.ensures
     ∙ ap (λ (l : List ℕ). read_told (line_read l)) (line_taken a.listing.now a.start a.end c.requires.0)
 
-told : (c : After-bytes-1) → line_told (line_read (line c)) ≡ c.line_read-read.result.line
+told : (c : After-line_read-read) → line_told (line_read (line c)) ≡ c.line_read-read.result.line
 unfolding read_told
 told c = sym (ap (λ (r : LineRead). r.line) (read_is c))
 
 -- the line opens the part again, closes it, or is passed over
 pub returns-in-Opens : goal.returns-in-Opens
 returns-in-Opens c f so_far =
-    rw c.going_on.ensures (stepped_open so_far (line (goal.at.returns-in-Opens c).After-bytes-1) c.requires.2 (told (goal.at.returns-in-Opens c).After-bytes-1 ∙ c.in-Opens.is))
+    rw c.going_on.ensures (stepped_open so_far (line (goal.at.returns-in-Opens c).After-line_read-read) c.requires.2 (told (goal.at.returns-in-Opens c).After-line_read-read ∙ c.in-Opens.is))
 
 pub returns-in-Closes : goal.returns-in-Closes
 returns-in-Closes c f so_far =
-    rw c.going_on-in-Closes.ensures (stepped_close so_far (line (goal.at.returns-in-Closes c).After-bytes-1) c.requires.2 (told (goal.at.returns-in-Closes c).After-bytes-1 ∙ c.in-Closes.is))
+    rw c.going_on-in-Closes.ensures (stepped_close so_far (line (goal.at.returns-in-Closes c).After-line_read-read) c.requires.2 (told (goal.at.returns-in-Closes c).After-line_read-read ∙ c.in-Closes.is))
 
 pub returns-in-Passed : goal.returns-in-Passed
 returns-in-Passed c f so_far =
-    rw c.going_on-in-Passed.ensures (stepped_over so_far (line (goal.at.returns-in-Passed c).After-bytes-1) c.requires.2 (told (goal.at.returns-in-Passed c).After-bytes-1 ∙ c.in-Passed.is))
+    rw c.going_on-in-Passed.ensures (stepped_over so_far (line (goal.at.returns-in-Passed c).After-line_read-read) c.requires.2 (told (goal.at.returns-in-Passed c).After-line_read-read ∙ c.in-Passed.is))
 
 -- one default more
 pub returns-in-Default : goal.returns-in-Default
 returns-in-Default c f so_far =
     rw c.with_default.ensures
-    (stepped_default so_far (line (goal.at.returns-in-Default c).After-bytes-1) c.requires.2 c.in-Default.action (told (goal.at.returns-in-Default c).After-bytes-1 ∙ c.in-Default.is))
+    (stepped_default so_far (line (goal.at.returns-in-Default c).After-line_read-read) c.requires.2 c.in-Default.action (told (goal.at.returns-in-Default c).After-line_read-read ∙ c.in-Default.is))
 
-is_rule : (c : After-keep-arg-in-Rule-1) → line_told (line_read (line (goal.at.After-keep-arg-in-Rule-1 c).After-bytes-1)) ≡ Rule
-is_rule c = told (goal.at.After-keep-arg-in-Rule-1 c).After-bytes-1 ∙ c.in-Rule.is
+is_rule : (c : In-Rule) → line_told (line_read (line (goal.at.In-Rule c).After-line_read-read)) ≡ Rule
+is_rule c = told (goal.at.In-Rule c).After-line_read-read ∙ c.in-Rule.is
 
 pub keep-requires : goal.keep-requires
 unfolding read_told rule_at
 keep-requires c =
     let (f, so_far) = c.requires.3 in
-    ((first_only [] f.rules, so_far.kept), ap (λ (r : LineRead). r.bytes) (read_is (goal.at.keep-requires c).After-bytes-1), told_recordable (line (goal.at.keep-requires c).After-bytes-1) (is_rule c))
+    ((first_only [] f.rules, so_far.kept), ap (λ (r : LineRead). r.bytes) (read_is (goal.at.keep-requires c).After-line_read-read), told_recordable (line (goal.at.keep-requires c).After-line_read-read) (is_rule (goal.at.keep-requires c).In-Rule))
 
 pub returns-in-Rule : goal.returns-in-Rule
 unfolding rule_at
 returns-in-Rule c f so_far =
-    stepped_rule so_far (line (goal.at.returns-in-Rule c).After-bytes-1) c.requires.2 (is_rule (goal.at.returns-in-Rule c).After-keep-arg-in-Rule-1) (c.keep.ensures (first_only [] f.rules) so_far.kept)
+    stepped_rule so_far (line (goal.at.returns-in-Rule c).After-line_read-read) c.requires.2 (is_rule (goal.at.returns-in-Rule c).In-Rule) (c.keep.ensures (first_only [] f.rules) so_far.kept)
 
 -- the line is turned away
 pub returns-in-Turned : goal.returns-in-Turned
 returns-in-Turned c f so_far =
-    stepped_turned so_far (line (goal.at.returns-in-Turned c).After-bytes-1) c.requires.2 c.in-Turned.why (told (goal.at.returns-in-Turned c).After-bytes-1 ∙ c.in-Turned.is)
+    stepped_turned so_far (line (goal.at.returns-in-Turned c).After-line_read-read) c.requires.2 c.in-Turned.why (told (goal.at.returns-in-Turned c).After-line_read-read ∙ c.in-Turned.is)

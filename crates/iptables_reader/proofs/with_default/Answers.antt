@@ -1,20 +1,16 @@
 -- `with_default` meets its contract: by the action, then by whether it is the first default. Assumes nothing.
 use mathlib.Core.Path.{◌≡◌, sym}
-use mathlib.Core.Logic.{⊎_elim}
 use borrow.Author.Tests.{eq-eqb, ne_eqb}
 use borrow.Author.Rules.{rules}
 use Rattle.iptables_reader.specs.Gathering.{permitted, with_default}
 use Rattle.iptables_reader.proofs.with_default.Goals as goal
-use Rattle.iptables_reader.proofs.with_default.Goals.{Joined-action}
+use Rattle.iptables_reader.proofs.with_default.Goals.{Joined-action, in-Permit, in-Deny}
 
 -- the action's case
-permits : (c : Joined-action) → permitted c.args.action ≡ c.in-Permit.in-Permit-own.permits
+permits : (c : Joined-action) → permitted c.args.action ≡ c.match-action.permits
 unfolding permitted
 permits c =
-    ⊎_elim
-    (λ t. rw t.1.given.1 (sym t.2))
-    (λ t. rw t.1.given.1 (sym t.2))
-    c.in-Permit.in-Permit-own.branch
+    elim c.match-action.branch [ in-Permit w ↦ rw w.in-Permit.is (sym w.permits-is) | in-Deny w ↦ rw w.in-Deny.is (sym w.permits-is) ]
 
 -- the first default, and a later one
 pub returns-then-seen-eq0 : goal.returns-then-seen-eq0

@@ -37,9 +37,8 @@ returns-then-place-needed c marks f so_far =
 -- 57, 7 and 4 at 0
 pub returns-in-Bad : goal.returns-in-Bad
 returns-in-Bad c marks f so_far =
-    let told = c.checking-1.given in
     let a = c.args in
-    written_turned f a.place.now told.0.0 (sym told.1 ∙ c.finished-checking.ensures a.listing.now marks a.starts.now f so_far)
+    written_turned f a.place.now c.in-Bad.why (sym c.in-Bad.is ∙ c.finished-checking.ensures a.listing.now marks a.starts.now f so_far)
 
 pub bytes_needed-needed-requires : goal.bytes_needed-needed-requires
 bytes_needed-needed-requires c = few c

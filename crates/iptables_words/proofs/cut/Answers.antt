@@ -4,7 +4,6 @@ use Prim.Native.Nat.{◌-◌}
 use mathlib.Core.Path.{refl}
 use lib.ListN.{length}
 use borrow.Author.Rules.{rules}
-use borrow.Author.Tests.{eqb-true, eqb-false, not-true, not-false}
 use Rattle.iptables_words.proofs.Pieces.{Ahead, goes_on_lem, ends_at_byte, ends_with_all}
 use Rattle.iptables_words.proofs.cut.Goals as goal
 
@@ -16,14 +15,14 @@ loop-end-preserved c =
     let loop = c.loop-end in
     let args = c.args in
     goes_on_lem args.by args.bytes.now args.at loop.end loop.invariant c.loop-end-test.true
-    (eqb-false _ _ (not-true _ c.if-bytes-end.true-raw))
+    c.if-bytes-end.true
 
 pub returns-else-bytes-end : goal.returns-else-bytes-end
 returns-else-bytes-end c =
     let loop = c.loop-end in
     let args = c.args in
     ends_at_byte args.by args.bytes.now args.at loop.end loop.invariant c.loop-end-test.true
-    (eqb-true _ _ (not-false _ c.if-bytes-end.false-raw))
+    c.if-bytes-end.false
 
 pub returns-after-loop-end : goal.returns-after-loop-end
 returns-after-loop-end c =

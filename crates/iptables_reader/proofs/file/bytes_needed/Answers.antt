@@ -3,18 +3,17 @@ use Prim.Native.Nat.{◌≤◌}
 use native.Mathlib.Omega.{arith}
 use mathlib.Core.Path.{◌≡◌}
 use mathlib.Core.Bool.{cond}
-use mathlib.Core.Logic.{⊎_elim}
 use borrow.Author.Rules.{rules}
 use Rattle.iptables_reader.specs.Kept.{bytes_needed}
 use Rattle.iptables_reader.proofs.file.bytes_needed.Goals as goal
-use Rattle.iptables_reader.proofs.file.bytes_needed.Goals.{Joined-permits}
+use Rattle.iptables_reader.proofs.file.bytes_needed.Goals.{Joined-permits, then-permits, else-permits}
 
 -- the bytes of the default, which are few
 default_size : (c : Joined-permits) → c.if-permits.default ≡ cond c.args.permits 4 0
-default_size c = ⊎_elim (λ there. rw there.0.true there.1) (λ absent. rw absent.0.left absent.1) c.if-permits.branch
+default_size c = elim c.if-permits.branch [ then-permits w ↦ rw w.if-permits.true w.default-is | else-permits w ↦ rw w.if-permits.false w.default-is ]
 
 default_few : (c : Joined-permits) → c.if-permits.default ≤ 4
-default_few c = ⊎_elim (λ there. omega (arith, there.1)) (λ absent. omega (arith, absent.1)) c.if-permits.branch
+default_few c = elim c.if-permits.branch [ then-permits w ↦ omega (arith, w.default-is) | else-permits w ↦ omega (arith, w.default-is) ]
 
 pub returns : goal.returns
 unfolding bytes_needed

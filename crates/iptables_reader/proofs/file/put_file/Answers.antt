@@ -7,7 +7,7 @@ use Rattle.iptables_reader.proofs.file.put_file.Goals.{After-put_numbers-2}
 -- both policies stand behind the rules
 lists : (c : After-put_numbers-2)
     → let a = c.args in
-    ListsPut a.listing.now a.starts.now a.count a.place.now c.put_numbers-2.new.0
+    ListsPut a.listing.now a.starts.now a.count a.place.now c.put_numbers-2.new.place
 lists c =
     let a = c.args in
     lists_put a.listing.now a.starts.now a.count c.requires.0 c.put_rules.ensures c.put_numbers.ensures

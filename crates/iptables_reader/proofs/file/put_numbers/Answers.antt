@@ -26,7 +26,7 @@ returns c =
     c.requires.0 (omega arith) c.store.ensures c.loop-k.invariant.1
 
 pub shape_of-place : goal.shape_of-place
-shape_of-place c = stored_long c.loop-k.invariant.1 ∙ c.store.auto.0
+shape_of-place c = stored_long c.loop-k.invariant.1 ∙ c.store.auto.place
 
 pub loop-k-smaller : goal.loop-k-smaller
 loop-k-smaller c = omega arith

@@ -4,7 +4,6 @@ use Prim.Native.Nat.{◌-◌}
 use native.Mathlib.Omega.{arith}
 use mathlib.Core.Path.{◌≡◌, refl, sym, ◌∙◌}
 use mathlib.Core.Bool.{Bool, true, false}
-use mathlib.Core.Logic.{⊎_elim}
 use lib.ListN.{get_or}
 use borrow.Author.Rules.{rules}
 use Rattle.policy.specs.Lists.{same}
@@ -12,7 +11,7 @@ use Rattle.deployment.specs.Values.{rule_bytes}
 use Rattle.iptables_reader.specs.Kept.{rule_at}
 use Rattle.iptables_reader.proofs.Keeping.{known_from, known_here, known_later, known_nowhere, other_mark}
 use Rattle.iptables_reader.proofs.table.is_kept.Goals as goal
-use Rattle.iptables_reader.proofs.table.is_kept.Goals.{At-loop-k, Joined-else-marks-k}
+use Rattle.iptables_reader.proofs.table.is_kept.Goals.{At-loop-k, Joined-else-marks-k, else-marks-k-via-then-marks-k+else-same_bytes, else-marks-k-via-else-marks-k}
 
 -- whether the k-th record is the given one
 abbrev is_it : At-loop-k → Bool
@@ -27,12 +26,12 @@ loop-k-init c = refl
 other : (c : Joined-else-marks-k) → is_it (goal.at.Joined-else-marks-k c).At-loop-k ≡ false
 other c =
     let a = c.args in
-    ⊎_elim
-    (λ (marked, read, found, lent, compared, differ). rw (← found.ensures) (sym compared.ensures ∙ differ.false))
-    (λ differ.
-    other_mark a.listing.now a.starts.now a.bytes.now a.count c.loop-k.k c.requires.1 c.loop-k-test.true
-    a.marks.now c.requires.2 (λ e. differ.false (e ∙ sym c.mark_of-mark.ensures.0)))
-    c.else-marks-k.branch
+    elim c.else-marks-k.branch [
+      else-marks-k-via-then-marks-k+else-same_bytes w ↦ rw (← w.record_at.ensures) (sym w.same_bytes.ensures ∙ w.if-same_bytes.false)
+    | else-marks-k-via-else-marks-k w ↦
+        other_mark a.listing.now a.starts.now a.bytes.now a.count c.loop-k.k c.requires.1 c.loop-k-test.true
+        a.marks.now c.requires.2 (λ e. w.if-marks-k.false (e ∙ sym c.mark_of-mark.ensures.0))
+    ]
 
 pub loop-k-preserved : goal.loop-k-preserved
 loop-k-preserved c =

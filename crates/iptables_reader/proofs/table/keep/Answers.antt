@@ -2,15 +2,14 @@
 -- room. Assumes nothing.
 use native.Mathlib.Omega.{arith}
 use mathlib.Core.Path.{◌≡◌, sym, ◌∙◌, ap}
-use mathlib.Core.Logic.{⊎_elim}
-use lib.ListN.{length, take, length-set}
+use lib.ListN.{take}
 use borrow.Author.Rules.{rules}
 use Rattle.deployment.specs.Values.{rule_bytes}
 use Rattle.catalogue.specs.RuleMarks.{mark}
 use Rattle.iptables_reader.specs.Kept.{rule_at, records_at, known_record}
 use Rattle.iptables_reader.proofs.Keeping.{kept_over, kept_known, kept_more, kept_full}
 use Rattle.iptables_reader.proofs.table.keep.Goals as goal
-use Rattle.iptables_reader.proofs.table.keep.Goals.{After-is_kept}
+use Rattle.iptables_reader.proofs.table.keep.Goals.{After-is_kept, then-count-lt-MOST_RULES, else-count-lt-MOST_RULES}
 
 -- what is found of the record is what there is of the rule's
 found : (c : After-is_kept)
@@ -34,30 +33,18 @@ pub returns : goal.returns
 returns c rules kept =
     let a = c.args in
     let unknown = sym (found (goal.at.returns c).After-is_kept) ∙ c.if-is_kept.false in
-    ⊎_elim
-    (λ (room, lent, marked, is-marks, is-starts).
-    rw (is-marks, is-starts)
-    (kept_more a.listing.now a.marks.now a.starts.now a.count rules kept a.start c.requires.2 c.if-count-gt-MOST_RULES.false unknown
-    room.true marked.result (marked.ensures.0 ∙ ap mark c.requires.1)))
-    (λ (full, is-marks, is-starts).
-    rw (is-marks, is-starts)
-    (kept_full a.listing.now a.marks.now a.starts.now a.count rules kept a.start c.requires.2 c.if-count-gt-MOST_RULES.false unknown
-    full.false))
-    c.if-count-lt-MOST_RULES.branch
+    elim c.if-count-lt-MOST_RULES.branch [
+      then-count-lt-MOST_RULES w ↦
+        rw (w.marks-is, w.starts-is)
+        (kept_more a.listing.now a.marks.now a.starts.now a.count rules kept a.start c.requires.2 c.if-count-gt-MOST_RULES.false unknown
+        w.if-count-lt-MOST_RULES.true w.mark_of.result (w.mark_of.ensures.0 ∙ ap mark c.requires.1))
+    | else-count-lt-MOST_RULES w ↦
+        rw (w.marks-is, w.starts-is)
+        (kept_full a.listing.now a.marks.now a.starts.now a.count rules kept a.start c.requires.2 c.if-count-gt-MOST_RULES.false unknown
+        w.if-count-lt-MOST_RULES.false)
+    ]
 
 pub is_kept-requires : goal.is_kept-requires
 is_kept-requires c =
     let kept = c.requires.0.1 in
     (omega (arith, kept.marks_fit, c.if-count-gt-MOST_RULES.false), omega (arith, kept.starts_fit, c.if-count-gt-MOST_RULES.false), kept.marked c.if-count-gt-MOST_RULES.false)
-
-pub shape_of-marks : goal.shape_of-marks
-shape_of-marks c =
-    let a = c.args in
-    ⊎_elim (λ (room, lent, marked, is-marks, is-starts). ap length is-marks ∙ length-set a.marks.now a.count marked.result)
-    (λ (full, is-marks, is-starts). ap length is-marks) c.if-count-lt-MOST_RULES.branch
-
-pub shape_of-starts : goal.shape_of-starts
-shape_of-starts c =
-    let a = c.args in
-    ⊎_elim (λ (room, lent, marked, is-marks, is-starts). ap length is-starts ∙ length-set a.starts.now a.count a.start)
-    (λ (full, is-marks, is-starts). ap length is-starts) c.if-count-lt-MOST_RULES.branch
