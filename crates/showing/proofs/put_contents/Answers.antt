@@ -9,7 +9,6 @@ use Rattle.reader.proofs.FileAnswers.{Holds, file_holds}
 use Rattle.lines.proofs.Pieces.{puts_more, puts_whole}
 use Rattle.showing.specs.Text.{policies_text}
 use Rattle.showing.proofs.ShownTexts.{parts_printed, printed_short, script_reads}
-use borrow.Author.Rules.{rules}
 use Rattle.showing.proofs.put_contents.Goals as goal
 use Rattle.showing.proofs.put_contents.Goals.{After-shared_slice_known-1}
 

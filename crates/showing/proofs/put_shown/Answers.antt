@@ -4,11 +4,7 @@ use mathlib.Core.Path.{sym, ◌∙◌}
 use Rattle.reader.proofs.ShownReadings.{file_refused}
 use Rattle.lines.proofs.Pieces.{whole_wider}
 use Rattle.showing.proofs.ShownTexts.{printed_refusal}
-use borrow.Author.Rules.{rules}
 use Rattle.showing.proofs.put_shown.Goals as goal
-
-pub put_contents-requires : goal.put_contents-requires
-put_contents-requires c = sym c.in-Accepted.is ∙ c.read-found.ensures
 
 pub returns-in-Refused : goal.returns-in-Refused
 returns-in-Refused c =
@@ -16,6 +12,3 @@ returns-in-Refused c =
     let refusal = c.in-Refused.refusal in
     rw (printed_refusal file refusal (file_refused file refusal (sym c.in-Refused.is ∙ c.read-found.ensures)))
     (whole_wider c.put_refused.ensures (omega arith))
-
-pub returns-in-Accepted : goal.returns-in-Accepted
-returns-in-Accepted c = c.put_contents.ensures

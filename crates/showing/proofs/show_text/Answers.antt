@@ -2,7 +2,6 @@
 use native.Mathlib.Omega.{arith}
 use Rattle.lines.proofs.HandedOver.{no_room, room}
 use Rattle.showing.specs.Text.{show_printed}
-use borrow.Author.Rules.{rules}
 use Rattle.showing.proofs.show_text.Goals as goal
 
 pub returns-then-place-needed : goal.returns-then-place-needed

@@ -1,7 +1,6 @@
 -- `put_head` meets its contract: the word and the number, then the end of the line. Assumes nothing.
 use Rattle.lines.specs.Text.{text}
 use Rattle.lines.proofs.Pieces.{puts_more}
-use borrow.Author.Rules.{rules}
 use Rattle.rule_lines.proofs.heads.put_head.Goals as goal
 
 pub returns : goal.returns

@@ -1,11 +1,9 @@
 -- `number_of` meets its contract: after k bytes it has the number of the first k; the numbers stay below 2^32, so no sum is too large. The
 -- measure is how many bytes are left. Assumes nothing.
-use Prim.Native.Nat.{◌+◌, ◌-◌, ◌≤◌, ◌<◌}
+use Prim.Native.Nat.{◌+◌, ◌<◌}
 use native.Mathlib.Numerals.{add-one}
 use native.Mathlib.Omega.{arith}
 use mathlib.Core.Path.{◌≡◌}
-use borrow.Author.Rules.{rules}
-use Rattle.deployment.specs.Bytes.{number, part}
 use Rattle.deployment.proofs.Bytes.{elements_are_bytes}
 use Rattle.rule_lines.proofs.Numbers.{number_none, number_more, number_small}
 use Rattle.rule_lines.proofs.ranges.number_of.Goals as goal
@@ -29,20 +27,8 @@ loop-k-init c = (omega arith, number_none c.args.start c.args.rule.now)
 pub overflow_mul-n : goal.overflow_mul-n
 overflow_mul-n c = omega (arith, small c)
 
-pub overflow_add-start : goal.overflow_add-start
-overflow_add-start c = omega (arith, c.requires.0)
-
-pub bounds-rule-start : goal.bounds-rule-start
-bounds-rule-start c = omega (arith, c.requires.0)
-
 pub overflow_add-n : goal.overflow_add-n
 overflow_add-n c = omega (arith, small (goal.at.overflow_add-n c).In-loop-k, byte c)
-
-pub overflow_add-k : goal.overflow_add-k
-overflow_add-k c = omega arith
-
-pub loop-k-smaller : goal.loop-k-smaller
-loop-k-smaller c = omega arith
 
 pub loop-k-preserved : goal.loop-k-preserved
 loop-k-preserved c =

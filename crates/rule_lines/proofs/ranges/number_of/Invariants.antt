@@ -1,11 +1,6 @@
-use Prim.Native.Nat.{◌+◌, ◌-◌, ◌≤◌, ◌<◌}
-use native.Mathlib.Numerals.{add-one}
-use native.Mathlib.Omega.{arith}
+use Prim.Native.Nat.{◌-◌, ◌≤◌}
 use mathlib.Core.Path.{◌≡◌}
-use borrow.Author.Rules.{rules}
 use Rattle.deployment.specs.Bytes.{number, part}
-use Rattle.deployment.proofs.Bytes.{elements_are_bytes}
-use Rattle.rule_lines.proofs.Numbers.{number_none, number_more, number_small}
 use Rattle.rule_lines.proofs.ranges.number_of.Given as goal
 
 abbrev pub invariant-loop-k : goal.invariant-loop-k

@@ -4,7 +4,6 @@ use Rattle.deployment.specs.Bytes.{bytes_of}
 use Rattle.lines.specs.Text.{text, decimal}
 use Rattle.rule_lines.specs.Text.{dots, value_text}
 use Rattle.rule_lines.proofs.Joined.{puts_joined}
-use borrow.Author.Rules.{rules}
 use Rattle.rule_lines.proofs.ranges.put_address.Goals as goal
 
 pub returns : goal.returns

@@ -1,7 +1,6 @@
 -- `put_dotted` meets its contract: the byte, then the dot. Assumes nothing.
 use Rattle.lines.specs.Text.{text}
 use Rattle.lines.proofs.Pieces.{puts_more}
-use borrow.Author.Rules.{rules}
 use Rattle.rule_lines.proofs.ranges.put_dotted.Goals as goal
 
 pub returns : goal.returns

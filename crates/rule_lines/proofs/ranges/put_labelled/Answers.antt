@@ -1,6 +1,5 @@
 -- `put_labelled` meets its contract: the label, then the range. Assumes nothing.
 use Rattle.lines.proofs.Pieces.{puts_more}
-use borrow.Author.Rules.{rules}
 use Rattle.rule_lines.proofs.ranges.put_labelled.Goals as goal
 
 pub returns : goal.returns

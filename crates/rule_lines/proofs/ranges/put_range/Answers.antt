@@ -1,6 +1,5 @@
 -- `put_range` meets its contract: the bounds are the numbers at their places. Assumes nothing.
 use Rattle.deployment.specs.Values.{range_at}
-use borrow.Author.Rules.{rules}
 use Rattle.rule_lines.proofs.ranges.put_range.Goals as goal
 
 pub returns : goal.returns

@@ -1,7 +1,6 @@
 -- `put_value` meets its contract: four bytes are an address. Assumes nothing.
 use borrow.Author.Tests.{ne_eqb}
 use Rattle.rule_lines.specs.Text.{value_text}
-use borrow.Author.Rules.{rules}
 use Rattle.rule_lines.proofs.ranges.put_value.Goals as goal
 
 pub returns-then-width-eq-ADDRESS_BYTES : goal.returns-then-width-eq-ADDRESS_BYTES

@@ -5,7 +5,6 @@ use Rattle.deployment.specs.Values.{action_of, rule_of}
 use Rattle.deployment.proofs.Records.{first_byte}
 use Rattle.lines.specs.Text.{text}
 use Rattle.rule_lines.specs.Text.{action_text}
-use borrow.Author.Rules.{rules}
 use Rattle.rule_lines.proofs.rules.put_action.Goals as goal
 
 pub returns-then-rule-eq-PERMIT : goal.returns-then-rule-eq-PERMIT

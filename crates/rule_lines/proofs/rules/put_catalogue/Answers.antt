@@ -6,9 +6,6 @@ use Rattle.rule_lines.proofs.Joined.{puts_joined}
 use borrow.Author.Rules.{rules}
 use Rattle.rule_lines.proofs.rules.put_catalogue.Goals as goal
 
-pub put_rules-requires : goal.put_rules-requires
-put_rules-requires c = c.shown-rules.ensures.0
-
 pub returns : goal.returns
 unfolding text named catalogue_text
 returns c =

@@ -5,7 +5,6 @@ use Rattle.lines.specs.Text.{text}
 use Rattle.deployment.specs.Values.{range_at}
 use Rattle.rule_lines.specs.Text.{range_text, end_text}
 use Rattle.rule_lines.proofs.Joined.{puts_joined}
-use borrow.Author.Rules.{rules}
 use Rattle.rule_lines.proofs.rules.put_end.Goals as goal
 
 pub returns : goal.returns

@@ -3,7 +3,6 @@ use Rattle.deployment.specs.Values.{rule_of}
 use Rattle.lines.specs.Text.{text}
 use Rattle.rule_lines.specs.Text.{end_text, ends_text}
 use Rattle.rule_lines.proofs.Joined.{puts_joined}
-use borrow.Author.Rules.{rules}
 use Rattle.rule_lines.proofs.rules.put_ends.Goals as goal
 
 pub returns : goal.returns

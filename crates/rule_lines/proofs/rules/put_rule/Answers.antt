@@ -4,7 +4,6 @@ use Rattle.lines.specs.Text.{text}
 use Rattle.lines.proofs.Pieces.{puts_more}
 use Rattle.rule_lines.specs.Text.{range_text, rule_text}
 use Rattle.rule_lines.proofs.Joined.{puts_joined}
-use borrow.Author.Rules.{rules}
 use Rattle.rule_lines.proofs.rules.put_rule.Goals as goal
 
 pub returns : goal.returns

@@ -1,16 +1,13 @@
 -- `put_rules` meets its contract. The loop's invariant: the lines of the first k rules stand from the start on, and with those that are left they are
 -- all lines. The measure is how many rules are left. Assumes nothing.
-use Prim.Native.Nat.{ℕ, ◌+◌, ◌*◌, ◌-◌, ◌≤◌}
+use Prim.Native.Nat.{◌+◌, ◌*◌, ◌-◌, ◌≤◌}
 use native.Mathlib.Nat.{add-zero}
 use native.Mathlib.Omega.{arith}
-use mathlib.Core.Path.{◌≡◌, refl}
-use mathlib.Core.List.{List}
+use mathlib.Core.Path.{refl}
 use lib.ListN.{length, take, drop}
-use Rattle.policy.specs.Rule.{Rule}
 use Rattle.deployment.specs.Values.{rule_of}
-use Rattle.deployment.specs.Catalogue.{catalogue_of}
 use Rattle.catalogue.proofs.Rules.{first_count, first_fits}
-use Rattle.lines.proofs.Lines.{Lines, no_lines, one_line, all_lines}
+use Rattle.lines.proofs.Lines.{no_lines, one_line, all_lines}
 use Rattle.rule_lines.specs.Text.{rule_text, rules_text}
 use Rattle.rule_lines.proofs.RuleLines.{next_rule}
 use Rattle.rule_lines.proofs.rules.put_rules.Goals as goal
@@ -36,20 +33,8 @@ overflow_add-start c = omega (arith, fits c)
 pub overflow_add-start-in-loop-k : goal.overflow_add-start-in-loop-k
 overflow_add-start-in-loop-k c = omega (arith, fits (goal.at.overflow_add-start-in-loop-k c).In-loop-k)
 
-pub slice_bounds-put_rule-count : goal.slice_bounds-put_rule-count
-slice_bounds-put_rule-count c = omega arith
-
-pub slice_bounds-put_rule-start : goal.slice_bounds-put_rule-start
-slice_bounds-put_rule-start c = omega arith
-
 pub slice_bounds-put_rule-end : goal.slice_bounds-put_rule-end
 slice_bounds-put_rule-end c = omega (arith, fits (goal.at.slice_bounds-put_rule-end c).In-loop-k)
-
-pub overflow_add-k : goal.overflow_add-k
-overflow_add-k c = omega arith
-
-pub loop-k-smaller : goal.loop-k-smaller
-loop-k-smaller c = omega arith
 
 pub loop-k-preserved : goal.loop-k-preserved
 unfolding rules_text
@@ -63,9 +48,6 @@ loop-k-preserved c =
       one_line rules_text 0 (rules file count) k c.loop-k.invariant.1 rule (rule_text k rule)
           (next_rule count file c.requires k c.loop-k-test.true) (rw add-zero) c.put_rule-next.ensures,
     )
-
-pub shape_of-place : goal.shape_of-place
-shape_of-place c = c.loop-k.invariant.0
 
 pub returns : goal.returns
 unfolding rules_text

@@ -1,16 +1,11 @@
-use Prim.Native.Nat.{ℕ, ◌+◌, ◌*◌, ◌-◌, ◌≤◌}
-use native.Mathlib.Nat.{add-zero}
-use native.Mathlib.Omega.{arith}
-use mathlib.Core.Path.{◌≡◌, refl}
+use Prim.Native.Nat.{ℕ, ◌-◌}
+use mathlib.Core.Path.{◌≡◌}
 use mathlib.Core.List.{List}
-use lib.ListN.{length, take, drop}
+use lib.ListN.{length, take}
 use Rattle.policy.specs.Rule.{Rule}
-use Rattle.deployment.specs.Values.{rule_of}
 use Rattle.deployment.specs.Catalogue.{catalogue_of}
-use Rattle.catalogue.proofs.Rules.{first_count, first_fits}
-use Rattle.lines.proofs.Lines.{Lines, no_lines, one_line, all_lines}
-use Rattle.rule_lines.specs.Text.{rule_text, rules_text}
-use Rattle.rule_lines.proofs.RuleLines.{next_rule}
+use Rattle.lines.proofs.Lines.{Lines}
+use Rattle.rule_lines.specs.Text.{rules_text}
 use Rattle.rule_lines.proofs.rules.put_rules.Given as goal
 
 -- the rules that are shown

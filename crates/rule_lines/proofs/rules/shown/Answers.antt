@@ -8,7 +8,6 @@ use lib.Seq.{take_all}
 use Rattle.deployment.specs.Catalogue.{record_count, catalogue_of}
 use Rattle.deployment.proofs.Records.{catalogue_length}
 use Rattle.catalogue.proofs.Rules.{records_fit}
-use borrow.Author.Rules.{rules}
 use Rattle.rule_lines.proofs.rules.shown.Goals as goal
 
 whole_catalogue : (skip count : ℕ) (bytes : List ℕ) → record_count skip bytes ≤ count

@@ -5,7 +5,6 @@ use Rattle.lines.specs.Text.{text, named}
 use Rattle.lines.proofs.Pieces.{puts_more}
 use Rattle.rule_lines.proofs.Joined.{puts_joined}
 use Rattle.showing.proofs.Scripts.{script_shown}
-use borrow.Author.Rules.{rules}
 use Rattle.showing.proofs.lists.put_commands.Goals as goal
 use Rattle.showing.proofs.lists.put_commands.Goals.{After-value-script}
 

@@ -1,7 +1,6 @@
 -- `put_default` meets its contract: by whether there is a default. Assumes nothing.
 use Rattle.lines.specs.Text.{text}
 use Rattle.showing.specs.Text.{default_text}
-use borrow.Author.Rules.{rules}
 use Rattle.showing.proofs.lists.put_default.Goals as goal
 
 pub returns-then-has : goal.returns-then-has

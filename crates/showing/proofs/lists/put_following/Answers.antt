@@ -1,13 +1,13 @@
 -- `put_following` meets its contract. The loop's invariant: the numbers from the second to the k-th stand from the start on, and with those that are
 -- left they are all. The measure is how many are left. Assumes nothing.
-use Prim.Native.Nat.{◌-◌, ◌<◌}
+use Prim.Native.Nat.{◌<◌}
 use native.Mathlib.Omega.{arith}
-use mathlib.Core.Path.{◌≡◌, refl}
-use lib.ListN.{length, drop, get_or}
+use mathlib.Core.Path.{refl}
+use lib.ListN.{length, get_or}
 use lib.Seq.{drop-cons}
 use Rattle.deployment.specs.Values.{numbers_of}
 use Rattle.lines.specs.Text.{spaced, spaced_all}
-use Rattle.lines.proofs.Lines.{Lines, one_line, all_lines}
+use Rattle.lines.proofs.Lines.{one_line, all_lines}
 use Rattle.showing.proofs.NumberLines.{following, none_following}
 use borrow.Author.Rules.{rules}
 use Rattle.showing.proofs.lists.put_following.Goals as goal
@@ -27,9 +27,6 @@ loop-k-preserved c =
       one_line following 0 numbers k c.loop-k.invariant.1 (get_or numbers k 0) (spaced (get_or numbers k 0)) (drop-cons numbers k 0 inside) refl
           (rw (← c.number_at.ensures) c.put_spaced-next.ensures),
     )
-
-pub shape_of-place : goal.shape_of-place
-shape_of-place c = c.loop-k.invariant.0
 
 pub returns : goal.returns
 unfolding spaced_all

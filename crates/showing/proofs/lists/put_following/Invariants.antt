@@ -1,13 +1,10 @@
-use Prim.Native.Nat.{◌-◌, ◌<◌}
-use native.Mathlib.Omega.{arith}
-use mathlib.Core.Path.{◌≡◌, refl}
-use lib.ListN.{length, drop, get_or}
-use lib.Seq.{drop-cons}
+use Prim.Native.Nat.{◌-◌}
+use mathlib.Core.Path.{◌≡◌}
+use lib.ListN.{length, drop}
 use Rattle.deployment.specs.Values.{numbers_of}
-use Rattle.lines.specs.Text.{spaced, spaced_all}
-use Rattle.lines.proofs.Lines.{Lines, one_line, all_lines}
-use Rattle.showing.proofs.NumberLines.{following, none_following}
-use borrow.Author.Rules.{rules}
+use Rattle.lines.specs.Text.{spaced_all}
+use Rattle.lines.proofs.Lines.{Lines}
+use Rattle.showing.proofs.NumberLines.{following}
 use Rattle.showing.proofs.lists.put_following.Given as goal
 
 abbrev pub invariant-loop-k : goal.invariant-loop-k

@@ -1,7 +1,6 @@
 -- `put_keep` meets its contract: by whether there is a keep list. Assumes nothing.
 use Rattle.lines.specs.Text.{text}
 use Rattle.showing.specs.Text.{keep_text}
-use borrow.Author.Rules.{rules}
 use Rattle.showing.proofs.lists.put_keep.Goals as goal
 
 pub returns-then-has : goal.returns-then-has

@@ -5,7 +5,6 @@ use Rattle.reader.specs.Answers.{value_at}
 use Rattle.lines.specs.Text.{text, spaced}
 use Rattle.rule_lines.proofs.Joined.{puts_joined}
 use Rattle.showing.proofs.NumberLines.{list_behind}
-use borrow.Author.Rules.{rules}
 use Rattle.showing.proofs.lists.put_list.Goals as goal
 
 pub returns : goal.returns

@@ -4,7 +4,6 @@ use Rattle.deployment.specs.Values.{numbers_of}
 use Rattle.lines.specs.Text.{text}
 use Rattle.lines.proofs.Pieces.{puts_more}
 use Rattle.showing.proofs.NumberLines.{no_numbers, numbers_line}
-use borrow.Author.Rules.{rules}
 use Rattle.showing.proofs.lists.put_numbers.Goals as goal
 
 pub returns-then-listed-eq0 : goal.returns-then-listed-eq0

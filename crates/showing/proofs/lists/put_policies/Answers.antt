@@ -4,7 +4,6 @@ use Rattle.reader.specs.Answers.{value_at}
 use Rattle.lines.specs.Text.{text}
 use Rattle.rule_lines.proofs.Joined.{puts_joined}
 use Rattle.showing.specs.Text.{list_text, policies_text}
-use borrow.Author.Rules.{rules}
 use Rattle.showing.proofs.lists.put_policies.Goals as goal
 
 pub returns : goal.returns

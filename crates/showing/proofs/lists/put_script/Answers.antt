@@ -1,11 +1,7 @@
 -- `put_script` meets its contract: by whether there is a script. Assumes nothing.
 use Rattle.lines.specs.Text.{text}
 use Rattle.showing.specs.Text.{script_text}
-use borrow.Author.Rules.{rules}
 use Rattle.showing.proofs.lists.put_script.Goals as goal
-
-pub put_commands-requires : goal.put_commands-requires
-put_commands-requires c = c.requires c.if-has.true
 
 pub returns-then-has : goal.returns-then-has
 returns-then-has c = rw c.if-has.true c.put_commands.ensures
