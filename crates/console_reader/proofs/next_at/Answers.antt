@@ -6,7 +6,6 @@ use mathlib.Core.Path.{sym, ◌∙◌}
 use mathlib.Core.Logic.{inl, inr}
 use mathlib.Core.List.{List}
 use lib.ListN.{drop}
-use borrow.Author.Tests.{ltb-true, ltb-false}
 use borrow.Author.Rules.{rules}
 use Rattle.console_text.specs.Reading.{most_number, most_second}
 use Rattle.console_reader.proofs.OneLine.{no_line, LineAt, line_at, line_beyond, heard_fits, line_read_lem, line_wrong}
@@ -42,7 +41,7 @@ within_one c = c.if-one-gt-MOST_NUMBER.false
 
 within_two : (c : Else-most_second-two) → two (goal.at.Else-most_second-two c).In-Is ≤ most_second c.args.maker (code (goal.at.Else-most_second-two c).In-Is)
 within_two c =
-    omega (arith, c.most_second.ensures, ltb-false c.most_second.result (two (goal.at.Else-most_second-two c).In-Is) c.if-most_second-two.false-raw)
+    omega (arith, c.most_second.ensures, c.if-most_second-two.false)
 
 -- a command of the type
 pub returns-in-Is-d : goal.returns-in-Is-d

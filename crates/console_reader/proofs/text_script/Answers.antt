@@ -1,10 +1,9 @@
 -- `text_script` meets its contract: by the type, then by what the first pass tells, which puts nothing anywhere. Assumes nothing.
-use mathlib.Core.Path.{◌≡◌}
+use mathlib.Core.Path.{◌≡◌, sym, ◌∙◌}
 use mathlib.Core.Bool.{true}
 use borrow.Author.Rules.{rules}
 use Rattle.policy.specs.Policy.{most_commands}
 use Rattle.policy.specs.Command.{is_type}
-use Rattle.policy.proofs.Tests.{fails, passes}
 use Rattle.console_text.specs.Reading.{Understood, read_from}
 use Rattle.console_reader.proofs.ScriptField.{pass_counted, pass_turned, no_type, of_type_lem, turned_text}
 use Rattle.console_reader.proofs.text_script.Goals as goal
@@ -14,7 +13,7 @@ abbrev read : After-is_type → Understood
 read c = read_from c.args.maker c.args.kind most_commands 1 c.args.text.now
 
 there : (c : Else-not-is_type) → is_type c.args.kind ≡ true
-there c = passes c.is_type.ensures c.if-not-is_type.false-raw
+there c = sym c.is_type.ensures ∙ c.if-not-is_type.false
 
 pub put_field-requires : goal.put_field-requires
 put_field-requires c =
@@ -39,4 +38,4 @@ returns-in-Turned c =
 pub returns-then-not-is_type : goal.returns-then-not-is_type
 returns-then-not-is_type c =
     let a = c.args in
-    no_type a.maker a.kind a.text.now a.place.now (fails c.is_type.ensures c.if-not-is_type.true-raw)
+    no_type a.maker a.kind a.text.now a.place.now (sym c.is_type.ensures ∙ c.if-not-is_type.true)

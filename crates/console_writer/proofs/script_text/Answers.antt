@@ -18,7 +18,7 @@ abbrev value : After-script_checked-found → List ℕ
 value c = c.args.script.now
 
 bytes : (c : After-script_checked-found) → AreBytes (value c)
-bytes c = elements_are_bytes (value c) (λ i. omega (arith, c.shared_slice_known-1.given i))
+bytes c = elements_are_bytes (value c) (λ i. omega (arith, c.type_inv.script i))
 
 passes : (c : In-Good) → Good ≡ checking (script_value (some (value (goal.at.In-Good c).After-script_checked-found)))
 passes c = sym c.in-Good.is ∙ c.script_checked-found.ensures

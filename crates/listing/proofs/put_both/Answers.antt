@@ -20,18 +20,18 @@ contents c = c.requires.0
 
 valid : (c : After-plan_one-one) → Valid (contents c)
 valid c =
-    (written_again c.args.file.now (contents c) (elements_are_bytes c.args.file.now (λ i. omega (arith, c.shared_slice_known-1.given i)))
+    (written_again c.args.file.now (contents c) (elements_are_bytes c.args.file.now (λ i. omega (arith, c.type_inv.file i)))
     c.requires.1
     ).0
 
-one_is : (c : After-plan_one-one) → Reads c.plan_one-one.result c.plan_one-one.new.1.0 (made_one (contents c))
+one_is : (c : After-plan_one-one) → Reads c.plan_one-one.result c.plan_one-one.new.place (made_one (contents c))
 one_is c =
-    planned_reads (one_prints (contents c) (valid c)) (replicate 5124 0) (length-replicate {A = ℕ} 5124 0) c.plan_one-one.result c.plan_one-one.new.1.0
+    planned_reads (one_prints (contents c) (valid c)) (replicate 5124 0) (length-replicate {A = ℕ} 5124 0) c.plan_one-one.result c.plan_one-one.new.place
     (search rules) (rw c.requires.1 at c.plan_one-one.ensures)
 
-two_is : (c : After-plan_two-two) → Reads c.plan_two-two.result c.plan_two-two.new.1.0 (made_two (contents (goal.at.After-plan_two-two c).After-plan_one-one))
+two_is : (c : After-plan_two-two) → Reads c.plan_two-two.result c.plan_two-two.new.place (made_two (contents (goal.at.After-plan_two-two c).After-plan_one-one))
 two_is c =
-    planned_reads (two_prints (contents (goal.at.After-plan_two-two c).After-plan_one-one) (valid (goal.at.After-plan_two-two c).After-plan_one-one)) c.plan_one-one.last.1.0 (search rules) c.plan_two-two.result c.plan_two-two.new.1.0
+    planned_reads (two_prints (contents (goal.at.After-plan_two-two c).After-plan_one-one) (valid (goal.at.After-plan_two-two c).After-plan_one-one)) c.plan_one-one.new.place (search rules) c.plan_two-two.result c.plan_two-two.new.place
     (search rules) (rw c.requires.1 at c.plan_two-two.ensures)
 
 pub returns : goal.returns

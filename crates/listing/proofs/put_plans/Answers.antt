@@ -21,7 +21,7 @@ lists : (c : After-listed-target) →
     (value_at layout.keep file)
 lists c =
     let file = c.args.file.now in
-    file_given (file_held file (elements_are_bytes file (λ i. omega (arith, c.shared_slice_known-1.given i))) c.read-found.ensures c.in-Accepted.is)
+    file_given (file_held file (elements_are_bytes file (λ i. omega (arith, c.type_inv.file i))) c.read-found.ensures c.in-Accepted.is)
     c.value.ensures c.value-in-Accepted.ensures refl
 
 pub put_both-requires : goal.put_both-requires

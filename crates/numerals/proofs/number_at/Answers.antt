@@ -1,9 +1,8 @@
 -- `number_at` meets its contract: the text ends, no digit stands first, a 0 does, or another digit with those behind it. Assumes nothing.
 use native.Mathlib.Omega.{arith}
-use mathlib.Core.Path.{◌≡◌}
+use mathlib.Core.Path.{◌≡◌, sym, ◌∙◌}
 use mathlib.Core.Bool.{true}
 use lib.ListN.{get_or}
-use Rattle.policy.proofs.Tests.{fails, passes}
 use Rattle.numerals.specs.Numerals.{is_digit}
 use Rattle.numerals.proofs.Numerals.{is_digit_lem}
 use Rattle.numerals.proofs.Numbers.{text_ends, no_digit, a_zero, digits_behind}
@@ -13,7 +12,7 @@ use Rattle.numerals.proofs.number_at.Goals.{Else-not-is_digit}
 
 -- the first byte is a digit
 digit : (c : Else-not-is_digit) → let args = c.args in is_digit (get_or args.text.now args.at 0) ≡ true
-digit c = passes c.is_digit.ensures c.if-not-is_digit.false-raw
+digit c = sym c.is_digit.ensures ∙ c.if-not-is_digit.false
 
 pub returns : goal.returns
 returns c =
@@ -29,7 +28,7 @@ returns-then-first-eq-ZERO c =
 pub returns-then-not-is_digit : goal.returns-then-not-is_digit
 returns-then-not-is_digit c =
     let args = c.args in
-    no_digit args.text.now args.at c.if-text-at.false (fails c.is_digit.ensures c.if-not-is_digit.true-raw)
+    no_digit args.text.now args.at c.if-text-at.false (sym c.is_digit.ensures ∙ c.if-not-is_digit.true)
 
 pub returns-then-text-at : goal.returns-then-text-at
 returns-then-text-at c = let args = c.args in text_ends args.text.now args.at c.if-text-at.true

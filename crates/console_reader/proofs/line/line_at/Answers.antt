@@ -1,11 +1,10 @@
 -- `line_at` meets its contract: the name of the code's phrase, the numbers behind it and the line feed are looked for in this order. Assumes nothing.
 use Prim.Native.Nat.{◌+◌, ◌≤◌}
-use mathlib.Core.Path.{◌≡◌, sym}
+use mathlib.Core.Path.{◌≡◌, sym, ◌∙◌}
 use mathlib.Core.Bool.{true}
 use mathlib.Core.List.{[], ◌∷◌}
 use lib.ListN.{length, take, drop}
 use lib.Seq.{length-take-le}
-use Rattle.policy.proofs.Tests.{fails, passes}
 use Rattle.lines.specs.Printing.{words_in}
 use Rattle.lines.proofs.Wording.{holds_own}
 use Rattle.numerals.specs.Numerals.{numeral_read}
@@ -22,7 +21,7 @@ use Rattle.console_reader.proofs.line.line_at.Goals.{Else-not-stands, Else-not-s
 named : (c : Else-not-stands)
     → let args = c.args in
     starts (take c.phrase_of-phrase.result.name_bytes c.phrase_of-phrase.result.name) (drop args.at args.text.now) ≡ true
-named c = passes c.stands.ensures c.if-not-stands.false-raw
+named c = sym c.stands.ensures ∙ c.if-not-stands.false
 
 room : (c : Else-not-stands)
     → let args = c.args in args.at + c.phrase_of-phrase.result.name_bytes ≤ length args.text.now
@@ -44,7 +43,7 @@ second c = found_is _ _ _ _ (rw c.in-Is-second.is at c.second_at-second.ensures)
 
 ended : (c : Else-not-stands-2)
     → starts (10 ∷ []) (drop c.in-Is-second.end c.args.text.now) ≡ true
-ended c = passes c.stands-2.ensures c.if-not-stands-2.false-raw
+ended c = sym c.stands-2.ensures ∙ c.if-not-stands-2.false
 
 pub returns : goal.returns
 returns c =
@@ -56,7 +55,7 @@ pub returns-then-not-stands-2 : goal.returns-then-not-stands-2
 returns-then-not-stands-2 c =
     let args = c.args in
     not_ended args.text.now args.at args.maker args.code c.phrase_of-phrase.result c.phrase_of-phrase.ensures (named (goal.at.returns-then-not-stands-2 c).Else-not-stands)
-    _ _ (first (goal.at.returns-then-not-stands-2 c).In-Is) _ _ (second (goal.at.returns-then-not-stands-2 c).In-Is-second) (fails c.stands-2.ensures c.if-not-stands-2.true-raw)
+    _ _ (first (goal.at.returns-then-not-stands-2 c).In-Is) _ _ (second (goal.at.returns-then-not-stands-2 c).In-Is-second) (sym c.stands-2.ensures ∙ c.if-not-stands-2.true)
 
 pub returns-in_default-second : goal.returns-in_default-second
 returns-in_default-second c =
@@ -74,7 +73,7 @@ pub returns-then-not-stands : goal.returns-then-not-stands
 returns-then-not-stands c =
     let args = c.args in
     not_named args.text.now args.at args.maker args.code c.phrase_of-phrase.result c.phrase_of-phrase.ensures
-    (fails c.stands.ensures c.if-not-stands.true-raw)
+    (sym c.stands.ensures ∙ c.if-not-stands.true)
 
 pub second_at-second-requires : goal.second_at-second-requires
 second_at-second-requires c = ((first c).inside, holds_own c.phrase_of-phrase.ensures)

@@ -1,11 +1,10 @@
 -- `second_at` meets its contract: a phrase of one number has none, and one of two has it behind its word. Assumes nothing.
 use native.Mathlib.Omega.{arith}
 use Prim.Native.Nat.{◌+◌, ◌≤◌}
-use mathlib.Core.Path.{◌≡◌, sym}
+use mathlib.Core.Path.{◌≡◌, sym, ◌∙◌}
 use mathlib.Core.Bool.{true}
 use lib.ListN.{length, take, drop}
 use lib.Seq.{length-take-le}
-use Rattle.policy.proofs.Tests.{fails, passes}
 use Rattle.console_text.specs.Reading.{starts}
 use Rattle.console_reader.proofs.Standing.{fits}
 use Rattle.console_reader.proofs.Numbers.{one_number, not_between, behind_between}
@@ -15,7 +14,7 @@ use Rattle.console_reader.proofs.line.second_at.Goals.{Else-not-stands}
 
 stands_between : (c : Else-not-stands)
     → let args = c.args in starts (take args.phrase.between_bytes args.phrase.between) (drop args.at args.text.now) ≡ true
-stands_between c = passes c.stands.ensures c.if-not-stands.false-raw
+stands_between c = sym c.stands.ensures ∙ c.if-not-stands.false
 
 -- the text has room for it
 room : (c : Else-not-stands) → let args = c.args in args.at + args.phrase.between_bytes ≤ length args.text.now
@@ -34,7 +33,7 @@ returns c =
 pub returns-then-not-stands : goal.returns-then-not-stands
 returns-then-not-stands c =
     let args = c.args in
-    not_between args.text.now args.at args.phrase c.if-not-phrase.false (fails c.stands.ensures c.if-not-stands.true-raw)
+    not_between args.text.now args.at args.phrase c.if-not-phrase.false (sym c.stands.ensures ∙ c.if-not-stands.true)
 
 pub returns-then-not-phrase : goal.returns-then-not-phrase
 returns-then-not-phrase c = one_number c.args.text.now c.args.at c.args.phrase c.requires.0 c.if-not-phrase.true

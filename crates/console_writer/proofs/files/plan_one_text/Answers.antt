@@ -16,9 +16,9 @@ abbrev file : After-plan_one-answer → List ℕ
 file c = c.args.file.now
 
 -- what the planner answers, and leaves in the field
-one_is : (c : After-plan_one-answer) → Found made_one (file c) c.plan_one-answer.result c.plan_one-answer.new.1.0
+one_is : (c : After-plan_one-answer) → Found made_one (file c) c.plan_one-answer.result c.plan_one-answer.new.place
 one_is c =
-    found made_one (file c) one_prints (elements_are_bytes (file c) (λ i. omega (arith, c.shared_slice_known-1.given i)))
+    found made_one (file c) one_prints (elements_are_bytes (file c) (λ i. omega (arith, c.type_inv.file i)))
     (replicate 5124 0) (length-replicate {A = ℕ} 5124 0) (search rules) c.plan_one-answer.ensures
 
 pub returns : goal.returns

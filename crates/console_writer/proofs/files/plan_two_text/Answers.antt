@@ -16,9 +16,9 @@ abbrev file : After-plan_two-answer → List ℕ
 file c = c.args.file.now
 
 -- what the planner answers, and leaves in the field
-two_is : (c : After-plan_two-answer) → Found made_two (file c) c.plan_two-answer.result c.plan_two-answer.new.1.0
+two_is : (c : After-plan_two-answer) → Found made_two (file c) c.plan_two-answer.result c.plan_two-answer.new.place
 two_is c =
-    found made_two (file c) two_prints (elements_are_bytes (file c) (λ i. omega (arith, c.shared_slice_known-1.given i)))
+    found made_two (file c) two_prints (elements_are_bytes (file c) (λ i. omega (arith, c.type_inv.file i)))
     (replicate 5124 0) (length-replicate {A = ℕ} 5124 0) (search rules) c.plan_two-answer.ensures
 
 pub returns : goal.returns

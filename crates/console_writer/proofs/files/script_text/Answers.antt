@@ -20,7 +20,7 @@ abbrev file : After-read_to_judge-found → List ℕ
 file c = c.args.file.now
 
 bytes : (c : After-read_to_judge-found) → AreBytes (file c)
-bytes c = elements_are_bytes (file c) (λ i. omega (arith, c.shared_slice_known-1.given i))
+bytes c = elements_are_bytes (file c) (λ i. omega (arith, c.type_inv.file i))
 
 pub returns-in-Accepted : goal.returns-in-Accepted
 returns-in-Accepted c =

@@ -30,7 +30,7 @@ returns c =
     let numbers = take c.args.count all in
     record {
       put = all_lines following 0 numbers c.loop-k.k c.loop-k.invariant.1 (omega (arith, length-take-le c.args.count all c.requires)) refl;
-      short = all_short numbers (λ i. take_small c.args.count all (λ j. omega (arith, c.shared_slice_known-1.given j)) i);
+      short = all_short numbers (λ i. take_small c.args.count all (λ j. omega (arith, c.type_inv.numbers j)) i);
     }
 
 pub shape_of-place : goal.shape_of-place
