@@ -1,12 +1,13 @@
 -- `can_stand` meets its contract: by the last tag, the tags that can stand after it. Assumes nothing.
-use mathlib.Core.Path.{sym, ◌∙◌}
-use mathlib.Core.Logic.{⊎_elim}
+use native.Mathlib.Omega.{arith}
+use mathlib.Core.Path.{◌≡◌, sym, ◌∙◌}
 use mathlib.Core.List.{[], ◌∷◌}
 use borrow.Author.Tests.{ne_eqb, eqb-true, eqb-false}
 use Rattle.policy.specs.Lists.{mem}
 use Rattle.deployment.specs.File.{tags_after}
 use Rattle.reader.proofs.Heads.{first_tag, later_tag, second_tag, only_tag}
 use Rattle.reader.proofs.file.can_stand.Goals as goal
+use Rattle.reader.proofs.file.can_stand.Goals.{then-tag-eq-DEFAULT_TAG, else-tag-eq-DEFAULT_TAG}
 
 pub returns-then-tag-eq-RULE_TAG : goal.returns-then-tag-eq-RULE_TAG
 unfolding tags_after
@@ -25,19 +26,20 @@ unfolding tags_after
 returns-then-tag-eq-KEEP_TAG c =
     let tag = c.args.tag in
     rw c.in-3.is
-    (⊎_elim (λ (is, same). same ∙ first_tag tag 6 (4 ∷ 5 ∷ []) is.true)
-    (λ (isnt, same).
-    same ∙ first_tag tag 4 (5 ∷ []) (eqb-true tag 4 (sym same ∙ c.if-tag-eq-KEEP_TAG.true-raw)) ∙ later_tag tag 6 (4 ∷ 5 ∷ []) isnt.left)
-    c.if-tag-eq-DEFAULT_TAG.branch)
+    (elim c.if-tag-eq-DEFAULT_TAG.branch [
+      then-tag-eq-DEFAULT_TAG w ↦ w.t-6-is ∙ first_tag tag 6 (4 ∷ 5 ∷ []) w.if-tag-eq-DEFAULT_TAG.true
+      | else-tag-eq-DEFAULT_TAG w ↦
+        let isnt = w.if-tag-eq-DEFAULT_TAG.false in
+        let four : tag ≡ 4 = omega (arith, isnt) in
+        w.t-6-is ∙ first_tag tag 4 (5 ∷ []) four ∙ later_tag tag 6 (4 ∷ 5 ∷ []) isnt
+    ])
 
 pub returns-else-tag-eq-KEEP_TAG : goal.returns-else-tag-eq-KEEP_TAG
 unfolding tags_after
 returns-else-tag-eq-KEEP_TAG c =
     let tag = c.args.tag in
-    rw c.in-3.is
-    (⊎_elim (λ (is, same). absurd (eqb-false tag 6 (sym same ∙ c.if-tag-eq-KEEP_TAG.false-raw) is.true))
-    (λ (isnt, same). second_tag tag 4 5 (eqb-false tag 4 (sym same ∙ c.if-tag-eq-KEEP_TAG.false-raw)) ∙ later_tag tag 6 (4 ∷ 5 ∷ []) isnt.left)
-    c.if-tag-eq-DEFAULT_TAG.branch)
+    let isnt = c.if-tag-eq-KEEP_TAG.false in
+    rw c.in-3.is (second_tag tag 4 5 isnt.1 ∙ later_tag tag 6 (4 ∷ 5 ∷ []) isnt.0)
 
 pub returns-then-tag-eq-KEEP_TAG-2 : goal.returns-then-tag-eq-KEEP_TAG-2
 unfolding tags_after

@@ -32,15 +32,14 @@ returns-then-tag-eq-KEEP_TAG c =
 
 pub returns-then-tag-eq-SCRIPT_TAG : goal.returns-then-tag-eq-SCRIPT_TAG
 returns-then-tag-eq-SCRIPT_TAG c =
-    let a = (start no-keep.before.before).args in
+    let a = c.args in
     λ f begun read.
     c.script_checked.ensures ∙ checked_script a.file.now a.progress f begun a.tag a.bytes.now read c.if-tag-eq-SCRIPT_TAG.true
 
 pub returns : goal.returns
 returns c =
-    let no_default_lem = no-keep.before in
-    let a = (start no_default_lem.before).args in
+    let a = c.args in
     λ f begun read.
     c.policy_checked.ensures
     ∙ checked_policy a.file.now a.progress f begun a.tag a.bytes.now read
-    no_default_lem.before.if1.false no_default_lem.if2.false no-keep.if3.false c.if-tag-eq-SCRIPT_TAG.false
+    c.if-tag-eq-RULE_TAG.false c.if-tag-eq-DEFAULT_TAG.false c.if-tag-eq-KEEP_TAG.false c.if-tag-eq-SCRIPT_TAG.false

@@ -27,7 +27,5 @@ returns-then-tag-eq-DEFAULT_TAG c =
 pub returns : goal.returns
 unfolding length_fits
 returns c =
-    let no-rule = no-script.before in
-    let tag = no-rule.before.args.tag in
     c.list_fits.ensures
-    ∙ rw (ne_eqb tag 1 no-rule.if1.false, ne_eqb tag 5 no-script.if2.false, ne_eqb tag 6 c.if-tag-eq-DEFAULT_TAG.false)
+    ∙ rw (ne_eqb c.args.tag 1 c.if-tag-eq-RULE_TAG.false, ne_eqb c.args.tag 5 c.if-tag-eq-SCRIPT_TAG.false, ne_eqb c.args.tag 6 c.if-tag-eq-DEFAULT_TAG.false)

@@ -14,7 +14,7 @@ use Rattle.reader.proofs.file.next_field.Goals as goal
 use Rattle.reader.proofs.file.next_field.Goals.{After-value}
 
 found : (c : After-value) (f : Fields) → Begun c.args.file.now c.args.progress f
-    → c.Field c.in-Field.tag c.in-Field.size
+    → head.Field c.in-Field.tag c.in-Field.size
     ≡ head_shown (field_read f (drop c.args.progress.at c.args.file.now))
 found c f begun =
     let a = c.args in
@@ -37,15 +37,14 @@ checked-c-requires c =
 pub placed-layout-requires : goal.placed-layout-requires
 placed-layout-requires c = few_rules c.args.file.now c.args.progress c.requires.1.0 c.requires.1.1
 
--- OLD add-t16 : tie.Need-overflow-add-t16
--- OLD add-t16 c =
--- OLD     let at = c.before.before.before in
--- OLD     let s = start at.before in
--- OLD     let begun = s.requires.1 in
--- OLD     omega (
--- OLD       arith,
--- OLD       field_inside s.args.file.now s.args.progress begun.0 begun.1 s.requires.0 _ _ (found at.before begun.0 begun.1),
--- OLD     )
+pub overflow_add-result : goal.overflow_add-result
+overflow_add-result c =
+    let a = c.args in
+    let begun = c.requires.1 in
+    omega (
+      arith,
+      field_inside a.file.now a.progress begun.0 begun.1 c.requires.0 _ _ (found (goal.at.overflow_add-result c).After-value begun.0 begun.1),
+    )
 
 pub returns-in-Bad : goal.returns-in-Bad
 returns-in-Bad c =

@@ -7,6 +7,7 @@ use Rattle.reader.proofs.OneMore.{
   placed_default,
   placed_keep,
   placed_script,
+}
 use Prim.Native.Nat.{ℕ}
 use mathlib.Core.Path.{subst}
 use borrow.Author.Rules.{rules}
@@ -14,8 +15,6 @@ use Rattle.deployment.specs.File.{last_tag}
 use Rattle.deployment.proofs.Fields.{script_left_lem}
 use Rattle.reader.specs.Steps.{More}
 use Rattle.reader.proofs.file.placed.Goals as goal
-
-}
 
 pub returns-then-tag-eq-RULE_TAG : goal.returns-then-tag-eq-RULE_TAG
 returns-then-tag-eq-RULE_TAG c =
