@@ -4,7 +4,6 @@ use Prim.Native.Nat.{ℕ, min}
 use native.Mathlib.Omega.{arith}
 use mathlib.Core.Path.{◌≡◌, sym, ◌∙◌, ap, ap₂}
 use mathlib.Core.List.{List}
-use mathlib.Core.Logic.{⊎_elim}
 use mathlib.Core.Option.{some}
 use Rattle.policy.specs.Replay as policy
 use Rattle.deployment.specs.Values.{script_of}
@@ -15,7 +14,7 @@ use Rattle.replay.specs.Answers.{outcome_of, commands_of}
 use Rattle.replay.proofs.Values.{turned_at_policy, turned_at_script, accepted_policy, accepted_script, runs, starts_sound}
 use borrow.Author.Rules.{rules}
 use Rattle.replay.proofs.replay.Goals as goal
-use Rattle.replay.proofs.replay.Goals.{In_default, In_default-d, Joined-size-lt-MOST_RULES}
+use Rattle.replay.proofs.replay.Goals.{In_default, In_default-d, Joined-size-lt-MOST_RULES, then-size-lt-MOST_RULES, else-size-lt-MOST_RULES}
 
 -- the policy passed
 policy_passed : (c : In_default) →
@@ -42,7 +41,11 @@ script_passed c = sym c.in_default-d.is ∙ c.script_checked-d.ensures
 
 -- a catalogue has at most 1,024 rules
 top : (c : Joined-size-lt-MOST_RULES) → c.if-size-lt-MOST_RULES.top ≡ min c.args.size 1024
-top c = ⊎_elim (λ w. omega arith) (λ w. omega arith) c.if-size-lt-MOST_RULES.branch
+top c =
+    elim c.if-size-lt-MOST_RULES.branch [
+      then-size-lt-MOST_RULES w ↦ omega (arith, w.top-is)
+      | else-size-lt-MOST_RULES w ↦ omega (arith, w.top-is)
+    ]
 
 pub run-requires : goal.run-requires
 run-requires c =

@@ -1,21 +1,27 @@
 -- `rule_at` reads the slot of the place, where the list has it. Assumes nothing.
 use Prim.Native.Nat.{ℕ, ◌-◌, ◌<◌}
 use native.Mathlib.Omega.{arith}
-use mathlib.Core.Path.{sym, ◌∙◌, ap}
-use lib.ListN.{get_or, get_or-eq_default}
+use mathlib.Core.Path.{◌≡◌, sym, ◌∙◌, ap}
+use lib.ListN.{length, get_or, get_or-eq_default}
 use Rattle.policy.specs.Command.{rule_at}
 use Rattle.running.specs.Running.{view}
+use Rattle.running.specs.declared.Running.{Running}
 use Rattle.running.proofs.Edits.{view_fits}
 use Rattle.replay.proofs.Settled.{view_at}
 use borrow.Author.Rules.{rules}
 use Rattle.replay.proofs.rule_at.Goals as goal
-use Rattle.replay.proofs.rule_at.Goals.{Then-at-count}
 
 -- the list has no more rules than there are slots
-shown : (c : Then-at-count) → c.index_of-at.result < 1024
-shown c =
-    let slots = c.well_formed.0.1.1.0.1.0.1 in
-    omega (arith, c.if-at-count.true, c.count.ensures, view_fits c.args.list)
+shown : (list : Running) (n at : ℕ) → length list.rules ≡ 1024 → n ≡ length (view list) → at < n → at < 1024
+shown list n at slots counted inside = omega (arith, view_fits list)
+
+pub offset_bounds-rules-at : goal.offset_bounds-rules-at
+offset_bounds-rules-at c =
+    let inside = shown c.args.list _ _ c.well_formed.0.1.1.0.1.0.1 c.count.ensures c.if-at-count.true in
+    omega (arith, inside)
+
+pub bounds-rules-at : goal.bounds-rules-at
+bounds-rules-at c = shown c.args.list _ _ c.well_formed.0.1.1.0.1.0.1 c.count.ensures c.if-at-count.true
 
 pub returns-then-at-count : goal.returns-then-at-count
 unfolding rule_at

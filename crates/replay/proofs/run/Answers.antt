@@ -7,15 +7,14 @@ use borrow.Author.Rules.{rules}
 use lib.ListN.{drop}
 use Rattle.policy.specs.Replay.{replay_from, replay}
 use Rattle.deployment.specs.Values.{script_of}
-use Rattle.deployment.specs.Commands.{command_count, command_at, decoded}
-use Rattle.deployment.specs.declared.Decoded.TheVariants.{Is}
+use Rattle.deployment.specs.Commands.{command_count}
 use Rattle.running.specs.Running.{view}
 use Rattle.replay.specs.Stepping.{Sound}
 use Rattle.replay.specs.Answers.{shown_by, outcome_of, commands_of}
 use Rattle.replay.proofs.Steps.{step_failed, step_passed, step_sound}
 use Rattle.replay.proofs.Scripts.{never_wrong, run_on, run_breaks, run_ends}
 use Rattle.replay.proofs.run.Goals as goal
-use Rattle.replay.proofs.run.Goals.{In-Is-2, In-loop-k}
+use Rattle.replay.proofs.run.Goals.{In-loop-k}
 
 pub loop-k-init : goal.loop-k-init
 unfolding replay
@@ -25,11 +24,6 @@ loop-k-init c = (c.requires.0, refl)
 inside : (c : In-loop-k) → c.loop-k.k < command_count c.args.script.now
 inside c = omega (arith, c.loop-k-test.true, c.commands-count.ensures)
 
--- the k-th command
-decodes : (c : In-Is-2) →
-    Is c.in-Is.c ≡ decoded (command_at c.args.script.now c.loop-k.k)
-decodes c = sym c.in-Is.is ∙ c.command_at-d.ensures
-
 pub returns-in_default : goal.returns-in_default
 returns-in_default c =
     absurd (never_wrong c.args.script.now c.requires.1 c.loop-k.k (inside (goal.at.returns-in_default c).In-loop-k)
@@ -38,20 +32,23 @@ returns-in_default c =
 pub returns-in-Failed : goal.returns-in-Failed
 unfolding outcome_of
 returns-in-Failed c =
-    let fails = step_failed c.args.size (view c.loop-k.state.list) c.loop-k.state.places.of c.loop-k.invariant.0 _ c.step-s.result
+    let l = view c.loop-k.state.list in
+    let fails = step_failed c.args.size l c.loop-k.state.places.of c.loop-k.invariant.0 _ c.step-s.result
     c.step-s.ensures _ c.in-Failed.is in
     c.stop-in-Failed.ensures
-    ∙ ap outcome_of (sym (run_breaks c.args.script.now c.requires.1 c.args.size c.loop-k.k (view c.loop-k.state.list) c.loop-k.invariant.1 _
-    (inside (goal.at.returns-in-Failed c).In-loop-k) (decodes (goal.at.returns-in-Failed c).In-Is-2) _ fails))
+    ∙ ap outcome_of (sym (run_breaks c.args.script.now c.requires.1 c.args.size c.loop-k.k l c.loop-k.invariant.1 _
+    (inside (goal.at.returns-in-Failed c).In-loop-k) (c.in-Is.ensures tt) _ fails))
 
 pub loop-k-preserved : goal.loop-k-preserved
 loop-k-preserved c =
-    let passes = step_passed c.args.size (view c.loop-k.state.list) c.loop-k.state.places.of c.loop-k.invariant.0 _ c.step-s.result
-    c.step-s.ensures c.in_default-refusal.is in (
-      step_sound c.args.size (view c.loop-k.state.list) c.loop-k.state.places.of c.loop-k.invariant.0 _ c.step-s.result
-          c.step-s.ensures c.in_default-refusal.is,
-      run_on c.args.script.now c.requires.1 c.args.size c.loop-k.k (view c.loop-k.state.list) c.loop-k.invariant.1 _
-          (inside (goal.at.loop-k-preserved c).In-loop-k) (decodes (goal.at.loop-k-preserved c).In-Is-2) _ passes,
+    let l = view c.loop-k.state.list in
+    let stepped = c.step-s in
+    let passed = c.in_default-refusal.is in
+    let passes = step_passed c.args.size l c.loop-k.state.places.of c.loop-k.invariant.0 _ stepped.result
+    stepped.ensures passed in (
+      step_sound c.args.size l c.loop-k.state.places.of c.loop-k.invariant.0 _ stepped.result stepped.ensures passed,
+      run_on c.args.script.now c.requires.1 c.args.size c.loop-k.k l c.loop-k.invariant.1 _
+          (inside (goal.at.loop-k-preserved c).In-loop-k) (c.in-Is.ensures tt) _ passes,
     )
 
 pub returns : goal.returns
