@@ -1,6 +1,5 @@
 -- `type_of` meets its contract: a script value that is read has a first byte. Assumes nothing.
 use native.Mathlib.Omega.{arith}
-use mathlib.Core.Path.{refl}
 use Rattle.showing.proofs.Scripts.{script_starts}
 use Rattle.showing.proofs.lists.type_of.Goals as goal
 
