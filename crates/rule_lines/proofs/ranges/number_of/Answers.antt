@@ -14,12 +14,12 @@ small c =
     let now = c.loop-k in
     let rule = c.args.rule.now in
     rw now.invariant.1
-    (number_small c.args.start now.k rule (elements_are_bytes rule (λ i. omega (arith, c.shared_slice_known-1.given i)))
+    (number_small c.args.start now.k rule (elements_are_bytes rule (λ i. omega (arith, c.type_inv.rule i)))
     (omega (arith, c.requires.0)) (omega (arith, c.requires.1)))
 
 byte : (c : After-wide) → c.wide.result < 256
 byte c =
-    omega (arith, c.wide.ensures, c.shared_slice_known-1.given (c.args.start + c.loop-k.k))
+    omega (arith, c.wide.ensures, c.type_inv.rule (c.args.start + c.loop-k.k))
 
 pub loop-k-init : goal.loop-k-init
 loop-k-init c = (omega arith, number_none c.args.start c.args.rule.now)
