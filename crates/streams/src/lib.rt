@@ -2,12 +2,16 @@
 
 #![tactic(auto)]
 
-ghost use Rattle.std.specs.Prelude.{◌≡◌, length, take};
+ghost use Rattle.std.specs.Prelude.{◌≡◌, ◌<◌, ◌^◌, length, min, take, pos, negsuc, IfOk, OnErr};
 ghost use Rattle.streams.specs.Reading.{Fitting, Within, piece_of, next_of};
 
 use deployment::Written;
-use libc::{STDERR_FILENO, STDIN_FILENO, STDOUT_FILENO};
 use lines::outcomes::put_refused;
+use std::io;
+use std::io::Read;
+
+// Room for a refusal's line.
+const LINE_ROOM: usize = 4096;
 
 // How many bytes came in, or that reading failed.
 #[derive(Clone, Copy)]
@@ -31,6 +35,25 @@ enum Next {
     Over(Input),
 }
 
+// The answer of a read as one number: how many bytes came, or a number below 0 where it failed.
+fn answer_of(read: io::Result<usize>) -> isize
+    requires { IfOk read (λ n. n < 2 ^ 63) }
+    ensures came { IfOk read (λ n. result ≡ pos n) }
+    ensures failed { OnErr read (result ≡ negsuc 0) }
+{
+    match read {
+        Ok(n) => n as isize,
+        Err(_) => -1,
+    }
+}
+
+// The smaller of two numbers of bytes.
+fn fewer(a: usize, b: usize) -> usize
+    ensures { result ≡ min a b }
+{
+    if a < b { a } else { b }
+}
+
 // What a read into a part tells by its answer.
 fn piece_of(answer: isize, part: &[u8]) -> Piece
     ensures { result ≡ piece_of answer (length part.now) }
@@ -38,7 +61,7 @@ fn piece_of(answer: isize, part: &[u8]) -> Piece
     if answer < 0 {
         return Piece::Failed;
     }
-    let n = io::count(answer, part);
+    let n = fewer(answer as usize, part.len());
     if n == 0 {
         return Piece::End;
     }
@@ -46,13 +69,13 @@ fn piece_of(answer: isize, part: &[u8]) -> Piece
 }
 
 // One read into the place, from `done` on.
-fn read_piece(place: &mut [u8], done: usize) -> Piece
+fn read_piece<R: Read>(input: &mut R, place: &mut [u8], done: usize) -> Piece
     ensures { Fitting result done (length place.new) }
 {
     if place.len() < done {
         return Piece::End;
     }
-    let answer = libc::read(STDIN_FILENO, &mut place[done..]);
+    let answer = answer_of(input.read(&mut place[done..]));
     piece_of(answer, &place[done..])
 }
 
@@ -67,14 +90,14 @@ fn next_of(piece: Piece, done: usize) -> Next
     }
 }
 
-// Reads standard input to its end, or as far as the place goes, in as many pieces as it comes in.
-pub fn read_input(place: &mut [u8]) -> Input
+// Reads an input, such as standard input, to its end, or as far as the place goes, in as many pieces as it comes in.
+pub fn read_input<R: Read>(input: &mut R, place: &mut [u8]) -> Input
     ensures { Within result (length place.new) }
 {
     let size = place.len();
     let mut done = 0;
     while done < size {
-        let piece = read_piece(place, done);
+        let piece = read_piece(input, place, done);
         let next = next_of(piece, done);
         match next {
             Next::More(n) => done += n,
@@ -95,31 +118,31 @@ pub fn first<'a>(place: &'a [u8], n: usize) -> &'a [u8]
 }
 
 // Prints a text whole, or says on standard error that it isn't: a text that is cut off can read as another.
-pub fn print_whole(text: &[u8]) {
-    if !io::write_all(STDOUT_FILENO, text) {
-        io::write_all(STDERR_FILENO, b"cannot write the answer\n");
+pub fn print_whole<R: Print + Eprint>(rt: &R, text: &[u8]) {
+    if rt.write_all(text).is_err() {
+        let _ = rt.eprintln("cannot write the answer");
     }
 }
 
 // Prints the text that was written into the place.
-pub fn print(place: &[u8], written: Written) {
+pub fn print<R: Print + Eprint>(rt: &R, place: &[u8], written: Written) {
     if let Written::Bytes(n) = written {
-        print_whole(first(place, n));
+        print_whole(rt, first(place, n));
     }
 }
 
 // Prints what was written into the place, or the refusal's line.
-pub fn print_answer(place: &[u8], written: Written) {
+pub fn print_answer<R: Print + Eprint>(rt: &R, place: &[u8], written: Written) {
     if let Written::Turned(refusal) = written {
-        let mut line = io::buffer();
+        let mut line = [0u8; LINE_ROOM];
         let n = put_refused(&mut line, refusal);
-        print_whole(first(&line, n));
+        print_whole(rt, first(&line, n));
         return;
     }
-    print(place, written);
+    print(rt, place, written);
 }
 
 // The one answer to input that can't be read.
-pub fn print_unreadable() {
-    print_whole(b"unreadable input\n");
+pub fn print_unreadable<R: Print + Eprint>(rt: &R) {
+    print_whole(rt, b"unreadable input\n");
 }

@@ -1,16 +1,12 @@
-use Prim.Native.Nat.{ℕ, ◌≤◌, ◌-◌}
-use mathlib.Core.Path.{◌≡◌, sym, ◌∙◌, subst}
-use native.Mathlib.Omega.{arith}
+-- `read_input` ends and stays within the place. The invariant: the place keeps its length, and what was read lies within it. Each turn reads at least one
+-- byte, so what is left of the place falls. Assumes nothing.
+use Prim.Native.Nat.{◌≤◌, ◌-◌}
+use mathlib.Core.Path.{◌≡◌}
 use lib.ListN.{length}
-use borrow.Author.Rules.{rules}
-use Rattle.streams.specs.Reading.{Fitting, Going, next_of}
-use Rattle.streams.specs.declared.Piece.{Piece}
-use Rattle.streams.specs.declared.Piece.TheVariants.{Bytes, End, Failed}
-use Rattle.streams.specs.declared.Next.{Next}
 use Rattle.streams.proofs.read_input.Given as goal
 
 abbrev pub invariant-loop-done : goal.invariant-loop-done
-invariant-loop-done l = (l.done ≤ l.size) × (l.size ≡ length l.place)
+invariant-loop-done g l = (l.done ≤ l.size) × (l.size ≡ length l.place)
 
 abbrev pub decreases-loop-done : goal.decreases-loop-done
-decreases-loop-done l = l.size - l.done
+decreases-loop-done g l = l.size - l.done
