@@ -3,15 +3,23 @@
 
 #![tactic(auto)]
 
-ghost use Rattle.std.specs.Prelude.{◌≡◌, ◌≤◌, ◌-◌, length};
-ghost use Rattle.io.specs.Counts.{IsPrefixLen};
+ghost use Rattle.std.specs.Prelude.{◌≡◌, ◌≤◌, ◌-◌, length, take};
 
 use deployment::{Refusal, Written};
 use format::two;
-use libc::STDOUT_FILENO;
 use numbers::why_number;
 use reader::file::value;
 use reader::{FileRead, Span};
+use std::env::{Env, FillError};
+use std::fs;
+use std::io::Read;
+use std::rt::Files;
+
+// The most bytes of a file that a program reads.
+pub const MOST_READ: usize = 65536;
+
+// Room for an argument; a longer one is taken for an empty one.
+pub const NAME_ROOM: usize = 4096;
 
 const LENGTH_BYTES: usize = 2;
 
@@ -22,18 +30,68 @@ const TWO_BYTE_PRIME: u64 = 65521;
 
 const FOUR_BYTE_PRIME: u64 = 4294967291;
 
-// Prints the i-th argument, the name of a file, and reads as much of the file as `place` has room for.
-pub fn read_argument(i: usize, place: &mut [u8]) -> usize
-    ensures { IsPrefixLen result place.new }
+// How many arguments the program was started with, its own name among them.
+pub fn argument_count<R: Env>(rt: &R) -> usize {
+    let mut name = [0u8; NAME_ROOM];
+    for i in 0..usize::MAX {
+        if let Err(FillError::NotPresent) = rt.arg(i, &mut name) {
+            return i;
+        }
+    }
+    usize::MAX
+}
+
+// Puts the i-th argument at the start of `name`; its length, 0 where there is none.
+pub fn argument<R: Env>(rt: &R, i: usize, name: &mut [u8]) -> usize
+    ensures inside { result ≤ length name.new }
+    ensures whole { result ≡ length (take result name.new) }
 {
-    let mut name = io::buffer();
-    let n = os::arg(i, &mut name);
-    io::write_all(STDOUT_FILENO, &name[..n]);
-    io::write_all(STDOUT_FILENO, b"\n");
-    let fd = os::open_read(&name[..n]);
-    let got = io::read_full(fd, place);
-    libc::close(fd);
-    got
+    rt.arg(i, name).unwrap_or(0)
+}
+
+// Prints bytes. A write that fails is passed over.
+pub fn print_bytes<R: Print>(rt: &R, bytes: &[u8]) {
+    let _ = rt.write_all(bytes);
+}
+
+// Reads until the place is full, the input ends or a read fails; how many bytes there are now at the start of the place.
+fn read_full<R: Read>(input: &mut R, place: &mut [u8]) -> usize
+    ensures { result ≤ length place.new }
+{
+    let mut done = 0;
+    while done < place.len() {
+        let n = input.read(&mut place[done..]).unwrap_or(0);
+        if n == 0 {
+            break;
+        }
+        done += n;
+    }
+    done
+}
+
+// Reads as much of the file with this name as the place has room for; nothing where it can't be opened.
+fn read_named<R: Files>(rt: &R, name: &[u8], place: &mut [u8]) -> usize
+    ensures { result ≤ length place.new }
+{
+    let Ok(path) = str::from_utf8(name) else {
+        return 0;
+    };
+    let Ok(mut file) = fs::open(rt, path) else {
+        return 0;
+    };
+    read_full(&mut file, place)
+}
+
+// Prints the i-th argument, the name of a file, and reads as much of the file as `place` has room for.
+pub fn read_argument<R: Env + Files + Print>(rt: &R, i: usize, place: &mut [u8]) -> usize
+    ensures inside { result ≤ length place.new }
+    ensures whole { result ≡ length (take result place.new) }
+{
+    let mut name = [0u8; NAME_ROOM];
+    let n = argument(rt, i, &mut name);
+    print_bytes(rt, &name[..n]);
+    print_bytes(rt, b"\n");
+    read_named(rt, &name[..n], place)
 }
 
 // The length at the head of a row; 0 where there is none.
@@ -115,60 +173,60 @@ fn is_filled(room: &[u8], byte: u8) -> bool {
 }
 
 // Prints whether the bytes of a room are as they were.
-pub fn print_kept(room: &[u8], byte: u8) {
+pub fn print_kept<R: Print>(rt: &R, room: &[u8], byte: u8) {
     if is_filled(room, byte) {
-        io::write_all(STDOUT_FILENO, b" kept");
+        print_bytes(rt, b" kept");
     } else {
-        io::write_all(STDOUT_FILENO, b" changed");
+        print_bytes(rt, b" changed");
     }
 }
 
-pub fn print_number(word: &[u8], n: usize) {
-    io::write_all(STDOUT_FILENO, word);
-    io::print_decimal(STDOUT_FILENO, n as u64);
+pub fn print_number<R: Print>(rt: &R, word: &[u8], n: usize) {
+    print_bytes(rt, word);
+    let _ = rt.print(n);
 }
 
-pub fn print_refusal(refusal: Refusal) {
+pub fn print_refusal<R: Print>(rt: &R, refusal: Refusal) {
     let why = refusal.why;
-    print_number(b"refused ", why_number(why) as usize);
-    print_number(b" at ", refusal.at);
+    print_number(rt, b"refused ", why_number(why) as usize);
+    print_number(rt, b" at ", refusal.at);
 }
 
-fn print_span(word: &[u8], there: bool, span: Span) {
-    io::write_all(STDOUT_FILENO, word);
+fn print_span<R: Print>(rt: &R, word: &[u8], there: bool, span: Span) {
+    print_bytes(rt, word);
     if there {
-        print_number(b" ", span.start);
-        print_number(b" ", span.size);
+        print_number(rt, b" ", span.start);
+        print_number(rt, b" ", span.size);
     } else {
-        io::write_all(STDOUT_FILENO, b" none");
+        print_bytes(rt, b" none");
     }
 }
 
 // What was answered and left in a room, whose first bytes were lent: the refusal, or the bytes that were written, as they are; and whether the others
 // are as they were.
-pub fn print_answer(answer: Written, room: &[u8], byte: u8) {
+pub fn print_answer<R: Print>(rt: &R, answer: Written, room: &[u8], byte: u8) {
     match answer {
         Written::Turned(refusal) => {
-            io::write_all(STDOUT_FILENO, b" ");
-            print_refusal(refusal);
-            print_kept(room, byte);
+            print_bytes(rt, b" ");
+            print_refusal(rt, refusal);
+            print_kept(rt, room, byte);
         }
         Written::Bytes(n) => {
             let size = room.len();
-            print_number(b" wrote ", n);
-            print_kept(value(room, Span { start: n, size }), byte);
-            io::write_all(STDOUT_FILENO, b"\n");
-            io::write_all(STDOUT_FILENO, value(room, Span { start: 0, size: n }));
+            print_number(rt, b" wrote ", n);
+            print_kept(rt, value(room, Span { start: n, size }), byte);
+            print_bytes(rt, b"\n");
+            print_bytes(rt, value(room, Span { start: 0, size: n }));
         }
     }
-    io::write_all(STDOUT_FILENO, b"\n");
+    print_bytes(rt, b"\n");
 }
 
 // What is read of a file: the refusal, or where its values stand.
-pub fn print_reading(reading: FileRead) {
+pub fn print_reading<R: Print>(rt: &R, reading: FileRead) {
     match reading {
         FileRead::Refused(refusal) => {
-            print_refusal(refusal);
+            print_refusal(rt, refusal);
         }
         FileRead::Accepted(layout) => {
             let initial = layout.initial;
@@ -176,13 +234,13 @@ pub fn print_reading(reading: FileRead) {
             let default = layout.default;
             let keep = layout.keep;
             let script = layout.script;
-            print_number(b"rules ", layout.rules);
-            print_span(b" initial", true, initial);
-            print_span(b" target", true, target);
-            print_span(b" default", layout.has_default, default);
-            print_span(b" keep", layout.has_keep, keep);
-            print_span(b" script", layout.has_script, script);
+            print_number(rt, b"rules ", layout.rules);
+            print_span(rt, b" initial", true, initial);
+            print_span(rt, b" target", true, target);
+            print_span(rt, b" default", layout.has_default, default);
+            print_span(rt, b" keep", layout.has_keep, keep);
+            print_span(rt, b" script", layout.has_script, script);
         }
     }
-    io::write_all(STDOUT_FILENO, b"\n");
+    print_bytes(rt, b"\n");
 }

@@ -5,12 +5,16 @@
 
 #![tactic(auto)]
 
-use cases::{filled, print_answer, read_argument};
+use cases::{
+    MOST_READ, NAME_ROOM, argument, argument_count, filled, print_answer, print_bytes,
+    read_argument,
+};
 use console::Maker;
 use console_reader::text_script;
 use console_writer::{files, script_text};
 use deployment::Written;
-use libc::STDOUT_FILENO;
+use std::env::Env;
+use std::rt::Files;
 
 // What a lent place holds before a call.
 const LENT: u8 = 165;
@@ -58,58 +62,58 @@ fn called_with(call: Call, input: &[u8], room: &mut [u8], size: usize) -> Writte
     called(call, input, &mut room[..size])
 }
 
-fn print(word: &[u8]) {
-    io::write_all(STDOUT_FILENO, word);
+fn print<R: Print>(rt: &R, word: &[u8]) {
+    print_bytes(rt, word);
 }
 
-fn print_for(word: &[u8], maker: Maker) {
-    print(word);
+fn print_for<R: Print>(rt: &R, word: &[u8], maker: Maker) {
+    print(rt, word);
     match maker {
-        Maker::A => print(b"A"),
-        Maker::B => print(b"B"),
+        Maker::A => print(rt, b"A"),
+        Maker::B => print(rt, b"B"),
     }
 }
 
-fn print_name(call: Call) {
+fn print_name<R: Print>(rt: &R, call: Call) {
     match call {
-        Call::Script(maker) => print_for(b"script ", maker),
-        Call::Text(maker, kind) => print(b"text"),
-        Call::Own(maker) => print_for(b"own ", maker),
-        Call::PlanOne(maker) => print_for(b"plan 1 ", maker),
-        Call::PlanTwo(maker) => print_for(b"plan 2 ", maker),
+        Call::Script(maker) => print_for(rt, b"script ", maker),
+        Call::Text(maker, kind) => print(rt, b"text"),
+        Call::Own(maker) => print_for(rt, b"own ", maker),
+        Call::PlanOne(maker) => print_for(rt, b"plan 1 ", maker),
+        Call::PlanTwo(maker) => print_for(rt, b"plan 2 ", maker),
     }
 }
 
 // A call that is lent the first bytes of a room; its answer.
-fn print_lent(call: Call, input: &[u8], size: usize) -> Written {
+fn print_lent<R: Print>(rt: &R, call: Call, input: &[u8], size: usize) -> Written {
     let mut room = filled(LENT);
     let answer = called_with(call, input, &mut room, size);
-    print_name(call);
-    print_answer(answer, &room, LENT);
+    print_name(rt, call);
+    print_answer(rt, answer, &room, LENT);
     answer
 }
 
-fn print_call(call: Call, input: &[u8]) {
-    let answer = print_lent(call, input, ROOM_BYTES);
+fn print_call<R: Print>(rt: &R, call: Call, input: &[u8]) {
+    let answer = print_lent(rt, call, input, ROOM_BYTES);
     if let Written::Bytes(n) = answer {
         if 0 < n {
-            print_lent(call, input, n - 1);
+            print_lent(rt, call, input, n - 1);
         }
     }
 }
 
-fn print_value(input: &[u8]) {
-    print_call(Call::Script(Maker::A), input);
-    print_call(Call::Script(Maker::B), input);
+fn print_value<R: Print>(rt: &R, input: &[u8]) {
+    print_call(rt, Call::Script(Maker::A), input);
+    print_call(rt, Call::Script(Maker::B), input);
 }
 
-fn print_file(input: &[u8]) {
-    print_call(Call::Own(Maker::A), input);
-    print_call(Call::Own(Maker::B), input);
-    print_call(Call::PlanOne(Maker::A), input);
-    print_call(Call::PlanOne(Maker::B), input);
-    print_call(Call::PlanTwo(Maker::A), input);
-    print_call(Call::PlanTwo(Maker::B), input);
+fn print_file<R: Print>(rt: &R, input: &[u8]) {
+    print_call(rt, Call::Own(Maker::A), input);
+    print_call(rt, Call::Own(Maker::B), input);
+    print_call(rt, Call::PlanOne(Maker::A), input);
+    print_call(rt, Call::PlanOne(Maker::B), input);
+    print_call(rt, Call::PlanTwo(Maker::A), input);
+    print_call(rt, Call::PlanTwo(Maker::B), input);
 }
 
 fn maker_named(letter: u8) -> Maker {
@@ -119,7 +123,7 @@ fn maker_named(letter: u8) -> Maker {
     Maker::A
 }
 
-fn print_text(name: &[u8], input: &[u8]) {
+fn print_text<R: Print>(rt: &R, name: &[u8], input: &[u8]) {
     let n = name.len();
     if n < MAKER_BACK {
         return;
@@ -129,37 +133,37 @@ fn print_text(name: &[u8], input: &[u8]) {
     if digit < ZERO {
         return;
     }
-    print_call(Call::Text(maker, digit - ZERO), input);
+    print_call(rt, Call::Text(maker, digit - ZERO), input);
 }
 
-fn print_calls(name: &[u8], input: &[u8]) {
+fn print_calls<R: Print>(rt: &R, name: &[u8], input: &[u8]) {
     let n = name.len();
     if n == 0 {
         return;
     }
     let last = name[n - 1];
     if last == VALUE_ENDS {
-        print_value(input);
+        print_value(rt, input);
     } else if last == TEXT_ENDS {
-        print_text(name, input);
+        print_text(rt, name, input);
     } else {
-        print_file(input);
+        print_file(rt, input);
     }
 }
 
-fn print_argument(i: usize) {
-    let mut input = io::large_buffer();
-    let got = read_argument(i, &mut input);
-    let mut name = io::buffer();
-    let n = os::arg(i, &mut name);
-    print_calls(&name[..n], &input[..got]);
+fn print_argument<R: Env + Files + Print>(rt: &R, i: usize) {
+    let mut input = [0u8; MOST_READ];
+    let got = read_argument(rt, i, &mut input);
+    let mut name = [0u8; NAME_ROOM];
+    let n = argument(rt, i, &mut name);
+    print_calls(rt, &name[..n], &input[..got]);
 }
 
-fn main() {
-    let count = os::arg_count();
+fn main(rt: HostRuntime) {
+    let count = argument_count(&rt);
     let mut i = 1;
     while i < count {
-        print_argument(i);
+        print_argument(&rt, i);
         i += 1;
     }
 }

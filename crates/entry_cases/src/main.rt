@@ -6,7 +6,8 @@
 #![tactic(auto)]
 
 use cases::{
-    bytes_at, checksum, next_place, print_number, print_reading, print_refusal, read_argument,
+    MOST_READ, argument_count, bytes_at, checksum, next_place, print_bytes, print_number,
+    print_reading, print_refusal, read_argument,
 };
 use catalogue::Checking;
 use deployment::Written;
@@ -14,10 +15,11 @@ use entries::{Decided, files, lists};
 use format::number_at;
 use judge::Judged;
 use last_list::Ran;
-use libc::STDOUT_FILENO;
 use numbers::{fault_number, why_number};
 use plans::Planned;
 use policy::{Action, Decision, Fault, Flow, Verdict};
+use std::env::Env;
+use std::rt::Files;
 
 // What a lent place holds before a call.
 const LENT: u8 = 165;
@@ -147,88 +149,88 @@ fn word<'a>(words: &'a [u8], number: usize) -> &'a [u8] {
     bytes_at(words, part_place(words, 0, number))
 }
 
-fn print(words: &[u8], number: usize) {
-    io::write_all(STDOUT_FILENO, word(words, number));
+fn print<R: Print>(rt: &R, words: &[u8], number: usize) {
+    print_bytes(rt, word(words, number));
 }
 
-fn say(words: &[u8], number: usize, n: usize) {
-    print_number(word(words, number), n);
+fn say<R: Print>(rt: &R, words: &[u8], number: usize, n: usize) {
+    print_number(rt, word(words, number), n);
 }
 
-fn print_decision(words: &[u8], decision: Decision) {
+fn print_decision<R: Print>(rt: &R, words: &[u8], decision: Decision) {
     let action = decision.action;
     match action {
-        Action::Permit => say(words, PERMIT, decision.place),
-        Action::Deny => say(words, DENY, decision.place),
+        Action::Permit => say(rt, words, PERMIT, decision.place),
+        Action::Deny => say(rt, words, DENY, decision.place),
     }
 }
 
-fn print_decided(words: &[u8], answer: Decided) {
+fn print_decided<R: Print>(rt: &R, words: &[u8], answer: Decided) {
     match answer {
-        Decided::Turned(refusal) => print_refusal(refusal),
-        Decided::Is(decision) => print_decision(words, decision),
+        Decided::Turned(refusal) => print_refusal(rt, refusal),
+        Decided::Is(decision) => print_decision(rt, words, decision),
     }
 }
 
-fn print_verdict(words: &[u8], verdict: Verdict) {
+fn print_verdict<R: Print>(rt: &R, words: &[u8], verdict: Verdict) {
     match verdict {
         Verdict::Broken(fault, step) => {
-            say(words, VERDICT, fault_number(fault) as usize);
-            say(words, SPACE, step);
+            say(rt, words, VERDICT, fault_number(fault) as usize);
+            say(rt, words, SPACE, step);
         }
-        Verdict::Elsewhere(count) => say(words, ELSEWHERE, count),
+        Verdict::Elsewhere(count) => say(rt, words, ELSEWHERE, count),
         Verdict::Unordered(step, place) => {
-            say(words, UNORDERED, step);
-            say(words, SPACE, place);
+            say(rt, words, UNORDERED, step);
+            say(rt, words, SPACE, place);
         }
-        Verdict::NotFull => print(words, NOT_FULL),
-        Verdict::Safe => print(words, SAFE),
+        Verdict::NotFull => print(rt, words, NOT_FULL),
+        Verdict::Safe => print(rt, words, SAFE),
     }
 }
 
-fn print_judged(words: &[u8], answer: Judged) {
+fn print_judged<R: Print>(rt: &R, words: &[u8], answer: Judged) {
     match answer {
-        Judged::Turned(refusal) => print_refusal(refusal),
-        Judged::Said(verdict) => print_verdict(words, verdict),
+        Judged::Turned(refusal) => print_refusal(rt, refusal),
+        Judged::Said(verdict) => print_verdict(rt, words, verdict),
     }
 }
 
-fn print_checking(words: &[u8], answer: Checking) {
+fn print_checking<R: Print>(rt: &R, words: &[u8], answer: Checking) {
     match answer {
-        Checking::Good => print(words, GOOD),
+        Checking::Good => print(rt, words, GOOD),
         Checking::Bad(why) => {
-            say(words, CHECK, why_number(why) as usize);
-            print(words, END);
+            say(rt, words, CHECK, why_number(why) as usize);
+            print(rt, words, END);
         }
     }
 }
 
-fn print_ran(words: &[u8], answer: Ran) {
+fn print_ran<R: Print>(rt: &R, words: &[u8], answer: Ran) {
     match answer {
-        Ran::Turned(refusal) => print_refusal(refusal),
-        Ran::Ended(bytes) => say(words, ENDED, bytes),
+        Ran::Turned(refusal) => print_refusal(rt, refusal),
+        Ran::Ended(bytes) => say(rt, words, ENDED, bytes),
         Ran::Broken(fault, step) => {
-            say(words, BROKEN, fault_number(fault) as usize);
-            say(words, AT, step);
+            say(rt, words, BROKEN, fault_number(fault) as usize);
+            say(rt, words, AT, step);
         }
     }
 }
 
-fn print_planned(words: &[u8], answer: Planned) {
+fn print_planned<R: Print>(rt: &R, words: &[u8], answer: Planned) {
     match answer {
-        Planned::Turned(refusal) => print_refusal(refusal),
+        Planned::Turned(refusal) => print_refusal(rt, refusal),
         Planned::Done(plan) => {
-            say(words, KEPT, plan.kept);
-            say(words, COMMANDS, plan.commands);
-            say(words, AND_BYTES, plan.bytes);
+            say(rt, words, KEPT, plan.kept);
+            say(rt, words, COMMANDS, plan.commands);
+            say(rt, words, AND_BYTES, plan.bytes);
         }
     }
 }
 
-fn print_written(words: &[u8], answer: Written) {
+fn print_written<R: Print>(rt: &R, words: &[u8], answer: Written) {
     match answer {
-        Written::Turned(refusal) => print_refusal(refusal),
-        Written::Bytes(bytes) => say(words, BYTES, bytes),
+        Written::Turned(refusal) => print_refusal(rt, refusal),
+        Written::Bytes(bytes) => say(rt, words, BYTES, bytes),
     }
 }
 
@@ -249,17 +251,17 @@ fn flow(case: &[u8]) -> Flow {
     }
 }
 
-fn read_file(words: &[u8], file: &[u8], flow: Flow) {
-    print(words, READ);
-    print_reading(files::read(file));
-    print(words, TO_JUDGE);
-    print_reading(files::read_to_judge(file));
-    print(words, INITIAL_IS);
-    print_decided(words, files::decide(file, false, flow));
-    print(words, TARGET_IS);
-    print_decided(words, files::decide(file, true, flow));
-    print(words, JUDGE);
-    print_judged(words, files::judge(file));
+fn read_file<R: Print>(rt: &R, words: &[u8], file: &[u8], flow: Flow) {
+    print(rt, words, READ);
+    print_reading(rt, files::read(file));
+    print(rt, words, TO_JUDGE);
+    print_reading(rt, files::read_to_judge(file));
+    print(rt, words, INITIAL_IS);
+    print_decided(rt, words, files::decide(file, false, flow));
+    print(rt, words, TARGET_IS);
+    print_decided(rt, words, files::decide(file, true, flow));
+    print(rt, words, JUDGE);
+    print_judged(rt, words, files::judge(file));
 }
 
 fn check_lists(case: &[u8]) -> Checking {
@@ -299,14 +301,14 @@ fn judge_lists(case: &[u8]) -> Judged {
     )
 }
 
-fn read_lists(words: &[u8], case: &[u8], flow: Flow) {
-    print_checking(words, check_lists(case));
-    print(words, INITIAL_IS);
-    print_decided(words, decide_list(case, INITIAL, flow));
-    print(words, TARGET_IS);
-    print_decided(words, decide_list(case, TARGET, flow));
-    print(words, JUDGE);
-    print_judged(words, judge_lists(case));
+fn read_lists<R: Print>(rt: &R, words: &[u8], case: &[u8], flow: Flow) {
+    print_checking(rt, words, check_lists(case));
+    print(rt, words, INITIAL_IS);
+    print_decided(rt, words, decide_list(case, INITIAL, flow));
+    print(rt, words, TARGET_IS);
+    print_decided(rt, words, decide_list(case, TARGET, flow));
+    print(rt, words, JUDGE);
+    print_judged(rt, words, judge_lists(case));
 }
 
 fn plan_lists(case: &[u8], second: bool, place: &mut [u8]) -> Planned {
@@ -370,17 +372,17 @@ fn decide_lists(case: &[u8], list: usize, place: &mut [u8]) -> Written {
     )
 }
 
-fn fill_by_lists(words: &[u8], case: &[u8], asked: usize, place: &mut [u8]) {
+fn fill_by_lists<R: Print>(rt: &R, words: &[u8], case: &[u8], asked: usize, place: &mut [u8]) {
     if asked == REPLAY {
-        print_ran(words, replay_lists(case, place));
+        print_ran(rt, words, replay_lists(case, place));
     } else if asked == PLAN_ONE {
-        print_planned(words, plan_lists(case, false, place));
+        print_planned(rt, words, plan_lists(case, false, place));
     } else if asked == PLAN_TWO {
-        print_planned(words, plan_lists(case, true, place));
+        print_planned(rt, words, plan_lists(case, true, place));
     } else if asked == BY_INITIAL {
-        print_written(words, decide_lists(case, INITIAL, place));
+        print_written(rt, words, decide_lists(case, INITIAL, place));
     } else {
-        print_written(words, decide_lists(case, TARGET, place));
+        print_written(rt, words, decide_lists(case, TARGET, place));
     }
 }
 
@@ -388,15 +390,15 @@ fn decide_file(case: &[u8], of_target: bool, place: &mut [u8]) -> Written {
     files::decide_flows(part(case, FILE), of_target, part(case, FILE_FLOWS), place)
 }
 
-fn fill_by_file(words: &[u8], case: &[u8], asked: usize, place: &mut [u8]) {
+fn fill_by_file<R: Print>(rt: &R, words: &[u8], case: &[u8], asked: usize, place: &mut [u8]) {
     if asked == REPLAY {
-        print_ran(words, files::replay(part(case, FILE), place));
+        print_ran(rt, words, files::replay(part(case, FILE), place));
     } else if asked == PLAN_ONE {
-        print_planned(words, files::plan_one(part(case, FILE), place));
+        print_planned(rt, words, files::plan_one(part(case, FILE), place));
     } else if asked == PLAN_TWO {
-        print_planned(words, files::plan_two(part(case, FILE), place));
+        print_planned(rt, words, files::plan_two(part(case, FILE), place));
     } else {
-        print_written(words, decide_file(case, asked == BY_TARGET, place));
+        print_written(rt, words, decide_file(case, asked == BY_TARGET, place));
     }
 }
 
@@ -404,67 +406,67 @@ fn is_over_lists(case: &[u8]) -> bool {
     number_at(case, OVER_LISTS) == 1
 }
 
-fn fill(words: &[u8], case: &[u8], asked: usize, place: &mut [u8]) {
+fn fill<R: Print>(rt: &R, words: &[u8], case: &[u8], asked: usize, place: &mut [u8]) {
     if is_over_lists(case) {
-        fill_by_lists(words, case, asked, place);
+        fill_by_lists(rt, words, case, asked, place);
     } else {
-        fill_by_file(words, case, asked, place);
+        fill_by_file(rt, words, case, asked, place);
     }
 }
 
-fn print_filled(words: &[u8], case: &[u8], asked: usize, place: &mut [u8]) {
-    fill(words, case, asked, place);
-    say(words, PLACE, checksum(place, true) as usize);
+fn print_filled<R: Print>(rt: &R, words: &[u8], case: &[u8], asked: usize, place: &mut [u8]) {
+    fill(rt, words, case, asked, place);
+    say(rt, words, PLACE, checksum(place, true) as usize);
 }
 
 // The lent place is the first bytes of a room that has as many as two bytes can say.
-fn print_lent(words: &[u8], case: &[u8], asked: usize) {
+fn print_lent<R: Print>(rt: &R, words: &[u8], case: &[u8], asked: usize) {
     let mut room = [LENT; 65536];
     let size = number_at(case, ROOM) as usize;
-    print(words, asked);
-    print_filled(words, case, asked, &mut room[..size]);
+    print(rt, words, asked);
+    print_filled(rt, words, case, asked, &mut room[..size]);
 }
 
-fn print_read(words: &[u8], case: &[u8]) {
+fn print_read<R: Print>(rt: &R, words: &[u8], case: &[u8]) {
     if is_over_lists(case) {
-        read_lists(words, case, flow(case));
+        read_lists(rt, words, case, flow(case));
     } else {
-        read_file(words, part(case, FILE), flow(case));
+        read_file(rt, words, part(case, FILE), flow(case));
     }
 }
 
-fn print_case(words: &[u8], case: &[u8]) {
-    print_read(words, case);
-    print_lent(words, case, REPLAY);
-    print_lent(words, case, PLAN_ONE);
-    print_lent(words, case, PLAN_TWO);
-    print_lent(words, case, BY_INITIAL);
-    print_lent(words, case, BY_TARGET);
-    print(words, END);
+fn print_case<R: Print>(rt: &R, words: &[u8], case: &[u8]) {
+    print_read(rt, words, case);
+    print_lent(rt, words, case, REPLAY);
+    print_lent(rt, words, case, PLAN_ONE);
+    print_lent(rt, words, case, PLAN_TWO);
+    print_lent(rt, words, case, BY_INITIAL);
+    print_lent(rt, words, case, BY_TARGET);
+    print(rt, words, END);
 }
 
-fn print_row(words: &[u8], row: &[u8]) {
+fn print_row<R: Print>(rt: &R, words: &[u8], row: &[u8]) {
     let mut at = 0;
     while at < row.len() {
-        print_case(words, bytes_at(row, at));
+        print_case(rt, words, bytes_at(row, at));
         at = next_place(row, at);
     }
 }
 
 // The words of all lines are a row, each behind its length.
-fn print_argument(i: usize) {
+fn print_argument<R: Env + Files + Print>(rt: &R, i: usize) {
     let words =
         b"\x00\x05read \x00\x0eread to judge \x00\x08initial \x00\x08\ntarget \x00\x07\njudge \x00\x08\nreplay \x00\x08\nplan 1 \x00\x08\nplan 2 \x00\x12\nflows by initial \x00\x11\nflows by target \x00\x07 place \x00\x01\n\x00\x07permit \x00\x05deny \x00\x0bcheck good\n\x00\x06check \x00\x08verdict \x00\x0bverdict 24 \x00\x0bverdict 30 \x00\x0averdict 31\x00\x0averdict 32\x00\x01 \x00\x07broken \x00\x04 at \x00\x06ended \x00\x05kept \x00\x0a commands \x00\x07 bytes \x00\x06bytes ";
-    let mut row = io::large_buffer();
-    let got = read_argument(i, &mut row);
-    print_row(words, &row[..got]);
+    let mut row = [0u8; MOST_READ];
+    let got = read_argument(rt, i, &mut row);
+    print_row(rt, words, &row[..got]);
 }
 
-fn main() {
-    let count = os::arg_count();
+fn main(rt: HostRuntime) {
+    let count = argument_count(&rt);
     let mut i = 1;
     while i < count {
-        print_argument(i);
+        print_argument(&rt, i);
         i += 1;
     }
 }

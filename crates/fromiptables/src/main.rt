@@ -10,18 +10,18 @@ const MOST_LISTING: usize = 262144;
 
 const LISTING_ROOM: usize = MOST_LISTING + 1;
 
-fn main() {
+fn main(rt: HostRuntime) {
     let mut listing = [0u8; LISTING_ROOM];
-    let input = read_input(&mut listing);
+    let input = read_input(&mut rt.stdin(), &mut listing);
     let Input::Bytes(n) = input else {
-        print_unreadable();
+        print_unreadable(&rt);
         return;
     };
     if MOST_LISTING < n {
-        print_whole(b"listing longer than 262144 bytes\n");
+        print_whole(&rt, b"listing longer than 262144 bytes\n");
         return;
     }
     let mut place = [0u8; MOST_FILE];
     let written = from_iptables(first(&listing, n), &mut place);
-    print_answer(&place, written);
+    print_answer(&rt, &place, written);
 }

@@ -3,10 +3,11 @@
 
 #![tactic(auto)]
 
-use cases::{filled, print_answer, read_argument};
+use cases::{MOST_READ, argument_count, filled, print_answer, print_bytes, read_argument};
 use deployment::Written;
 use iptables_reader::from_iptables;
-use libc::STDOUT_FILENO;
+use std::env::Env;
+use std::rt::Files;
 
 // What a lent place holds before a call.
 const LENT: u8 = 165;
@@ -23,34 +24,34 @@ fn called_with(listing: &[u8], room: &mut [u8], size: usize) -> Written {
 }
 
 // A call that is lent the first bytes of a room; its answer.
-fn print_lent(listing: &[u8], size: usize) -> Written {
+fn print_lent<R: Print>(rt: &R, listing: &[u8], size: usize) -> Written {
     let mut room = filled(LENT);
     let answer = called_with(listing, &mut room, size);
-    io::write_all(STDOUT_FILENO, b"listing");
-    print_answer(answer, &room, LENT);
+    print_bytes(rt, b"listing");
+    print_answer(rt, answer, &room, LENT);
     answer
 }
 
-fn print_calls(listing: &[u8]) {
-    let answer = print_lent(listing, ROOM_BYTES);
+fn print_calls<R: Print>(rt: &R, listing: &[u8]) {
+    let answer = print_lent(rt, listing, ROOM_BYTES);
     if let Written::Bytes(n) = answer {
         if 0 < n {
-            print_lent(listing, n - 1);
+            print_lent(rt, listing, n - 1);
         }
     }
 }
 
-fn print_argument(i: usize) {
-    let mut listing = io::large_buffer();
-    let got = read_argument(i, &mut listing);
-    print_calls(&listing[..got]);
+fn print_argument<R: Env + Files + Print>(rt: &R, i: usize) {
+    let mut listing = [0u8; MOST_READ];
+    let got = read_argument(rt, i, &mut listing);
+    print_calls(rt, &listing[..got]);
 }
 
-fn main() {
-    let count = os::arg_count();
+fn main(rt: HostRuntime) {
+    let count = argument_count(&rt);
     let mut i = 1;
     while i < count {
-        print_argument(i);
+        print_argument(&rt, i);
         i += 1;
     }
 }

@@ -5,14 +5,17 @@
 use listing::plan_text;
 use streams::{Input, first, print, print_unreadable, read_input};
 
-fn main() {
-    let mut file = io::large_buffer();
-    let input = read_input(&mut file);
+// The most bytes of a file that are read, and of a text that is printed.
+const MOST_READ: usize = 65536;
+
+fn main(rt: HostRuntime) {
+    let mut file = [0u8; MOST_READ];
+    let input = read_input(&mut rt.stdin(), &mut file);
     let Input::Bytes(n) = input else {
-        print_unreadable();
+        print_unreadable(&rt);
         return;
     };
-    let mut place = io::large_buffer();
+    let mut place = [0u8; MOST_READ];
     let written = plan_text(first(&file, n), &mut place);
-    print(&place, written);
+    print(&rt, &place, written);
 }

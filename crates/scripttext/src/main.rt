@@ -7,22 +7,35 @@ use console::Maker;
 use console_writer::MOST_TEXT;
 use console_writer::files::{plan_one_text, plan_two_text, script_text};
 use deployment::Written;
+use std::env::{Env, FillError};
 use streams::{Input, first, print_answer, print_unreadable, print_whole, read_input};
 
+// The most bytes of a file that are read.
+const MOST_READ: usize = 65536;
+
+// Room for a word of the call.
+const WORD_ROOM: usize = 4096;
+
+// Whether the call has a word at this place; the program's own name is at 0.
+fn has_word<R: Env>(rt: &R, at: usize) -> bool {
+    let mut word = [0u8; WORD_ROOM];
+    !matches!(rt.arg(at, &mut word), Err(FillError::NotPresent))
+}
+
 // The maker that the call names.
-fn called_maker() -> MakerAsked {
-    let mut word = io::buffer();
-    let n = os::arg(1, &mut word);
+fn called_maker<R: Env>(rt: &R) -> MakerAsked {
+    let mut word = [0u8; WORD_ROOM];
+    let n = rt.arg(1, &mut word).unwrap_or(0);
     maker_asked(&word[..n])
 }
 
 // Of what the call asks for the text; nothing where it has more words than two, or fewer.
-fn called_what() -> WhatAsked {
-    if os::arg_count() != 3 {
+fn called_what<R: Env>(rt: &R) -> WhatAsked {
+    if !has_word(rt, 2) || has_word(rt, 3) {
         return WhatAsked::Other;
     }
-    let mut word = io::buffer();
-    let n = os::arg(2, &mut word);
+    let mut word = [0u8; WORD_ROOM];
+    let n = rt.arg(2, &mut word).unwrap_or(0);
     what_asked(&word[..n])
 }
 
@@ -36,32 +49,35 @@ fn text_of(file: &[u8], maker: Maker, what: WhatAsked, place: &mut [u8]) -> Writ
 }
 
 // The answer to the file on standard input.
-fn answer(maker: Maker, what: WhatAsked) {
-    let mut file = io::large_buffer();
-    let input = read_input(&mut file);
+fn answer(rt: HostRuntime, maker: Maker, what: WhatAsked) {
+    let mut file = [0u8; MOST_READ];
+    let input = read_input(&mut rt.stdin(), &mut file);
     let Input::Bytes(n) = input else {
-        print_unreadable();
+        print_unreadable(&rt);
         return;
     };
     let mut place = [0u8; MOST_TEXT];
     let written = text_of(first(&file, n), maker, what, &mut place);
-    print_answer(&place, written);
+    print_answer(&rt, &place, written);
 }
 
-fn print_usage() {
-    print_whole(b"usage: scripttext MAKER WHAT: A or B, then 1, 2 or own\n");
+fn print_usage<R: Print + Eprint>(rt: &R) {
+    print_whole(
+        rt,
+        b"usage: scripttext MAKER WHAT: A or B, then 1, 2 or own\n",
+    );
 }
 
-fn main() {
-    let named = called_maker();
-    let what = called_what();
+fn main(rt: HostRuntime) {
+    let named = called_maker(&rt);
+    let what = called_what(&rt);
     let MakerAsked::Is(maker) = named else {
-        print_usage();
+        print_usage(&rt);
         return;
     };
     if let WhatAsked::Other = what {
-        print_usage();
+        print_usage(&rt);
         return;
     }
-    answer(maker, what);
+    answer(rt, maker, what);
 }

@@ -6,53 +6,66 @@ use asked::{MakerAsked, WhatAsked, maker_asked, what_asked};
 use console::Maker;
 use console_reader::{MOST_FIELD, text_script};
 use policy::Command;
+use std::env::{Env, FillError};
 use streams::{Input, first, print_answer, print_unreadable, print_whole, read_input};
 
+// The most bytes of a text that are read.
+const MOST_READ: usize = 65536;
+
+// Room for a word of the call.
+const WORD_ROOM: usize = 4096;
+
+// Whether the call has a word at this place; the program's own name is at 0.
+fn has_word<R: Env>(rt: &R, at: usize) -> bool {
+    let mut word = [0u8; WORD_ROOM];
+    !matches!(rt.arg(at, &mut word), Err(FillError::NotPresent))
+}
+
 // The maker that the call names.
-fn called_maker() -> MakerAsked {
-    let mut word = io::buffer();
-    let n = os::arg(1, &mut word);
+fn called_maker<R: Env>(rt: &R) -> MakerAsked {
+    let mut word = [0u8; WORD_ROOM];
+    let n = rt.arg(1, &mut word).unwrap_or(0);
     maker_asked(&word[..n])
 }
 
 // The type that the call names; nothing where it has more words than two, or fewer.
-fn called_type() -> WhatAsked {
-    if os::arg_count() != 3 {
+fn called_type<R: Env>(rt: &R) -> WhatAsked {
+    if !has_word(rt, 2) || has_word(rt, 3) {
         return WhatAsked::Other;
     }
-    let mut word = io::buffer();
-    let n = os::arg(2, &mut word);
+    let mut word = [0u8; WORD_ROOM];
+    let n = rt.arg(2, &mut word).unwrap_or(0);
     what_asked(&word[..n])
 }
 
 // The answer to the text on standard input.
-fn answer(maker: Maker, kind: u8) {
-    let mut text = io::large_buffer();
-    let input = read_input(&mut text);
+fn answer(rt: HostRuntime, maker: Maker, kind: u8) {
+    let mut text = [0u8; MOST_READ];
+    let input = read_input(&mut rt.stdin(), &mut text);
     let Input::Bytes(n) = input else {
-        print_unreadable();
+        print_unreadable(&rt);
         return;
     };
     let mut place = [0u8; MOST_FIELD];
     let written = text_script(first(&text, n), kind, maker, &mut place);
-    print_answer(&place, written);
+    print_answer(&rt, &place, written);
 }
 
-fn main() {
-    let named = called_maker();
-    let kind = called_type();
+fn main(rt: HostRuntime) {
+    let named = called_maker(&rt);
+    let kind = called_type(&rt);
     if let MakerAsked::Is(maker) = named {
         match kind {
             WhatAsked::One => {
-                answer(maker, Command::APPEND_DELETE);
+                answer(rt, maker, Command::APPEND_DELETE);
                 return;
             }
             WhatAsked::Two => {
-                answer(maker, Command::INSERT_DELETE_MOVE);
+                answer(rt, maker, Command::INSERT_DELETE_MOVE);
                 return;
             }
             _ => {}
         }
     }
-    print_whole(b"usage: textscript MAKER TYPE: A or B, then 1 or 2\n");
+    print_whole(&rt, b"usage: textscript MAKER TYPE: A or B, then 1 or 2\n");
 }

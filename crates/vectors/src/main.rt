@@ -2,33 +2,35 @@
 
 #![tactic(auto)]
 
-use cases::read_argument;
+use cases::{MOST_READ, argument_count, read_argument};
 use listing::{judge_text, plan_text};
 use showing::{MOST_SHOWN, show_text};
+use std::env::Env;
+use std::rt::Files;
 use streams::print;
 
 // All texts of a file.
-fn print_texts(file: &[u8]) {
+fn print_texts<R: Print + Eprint>(rt: &R, file: &[u8]) {
     let mut place = [0u8; MOST_SHOWN];
     let planned = plan_text(file, &mut place);
-    print(&place, planned);
+    print(rt, &place, planned);
     let judged = judge_text(file, &mut place);
-    print(&place, judged);
+    print(rt, &place, judged);
     let shown = show_text(file, &mut place);
-    print(&place, shown);
+    print(rt, &place, shown);
 }
 
-fn print_argument(i: usize) {
-    let mut file = io::large_buffer();
-    let got = read_argument(i, &mut file);
-    print_texts(&file[..got]);
+fn print_argument<R: Env + Files + Print + Eprint>(rt: &R, i: usize) {
+    let mut file = [0u8; MOST_READ];
+    let got = read_argument(rt, i, &mut file);
+    print_texts(rt, &file[..got]);
 }
 
-fn main() {
-    let count = os::arg_count();
+fn main(rt: HostRuntime) {
+    let count = argument_count(&rt);
     let mut i = 1;
     while i < count {
-        print_argument(i);
+        print_argument(&rt, i);
         i += 1;
     }
 }

@@ -7,34 +7,35 @@
 ghost use Rattle.std.specs.Prelude.{◌≤◌, length};
 
 use cases::{
-    bytes_at, checksum, filled, next_place, print_kept, print_number, print_reading, print_refusal,
-    read_argument,
+    MOST_READ, argument_count, bytes_at, checksum, filled, next_place, print_bytes, print_kept,
+    print_number, print_reading, print_refusal, read_argument,
 };
 use deployment::Written;
 use entries::lists::write;
 use format::two;
-use libc::STDOUT_FILENO;
 use reader::Span;
 use reader::file::{read, value};
+use std::env::Env;
+use std::rt::Files;
 
 const HEAD_BYTES: usize = 6;
 
 // The answer, and what was left in the room, whose first bytes are the place.
-fn print_answer(answer: Written, room: &[u8], byte: u8) {
+fn print_answer<R: Print>(rt: &R, answer: Written, room: &[u8], byte: u8) {
     match answer {
         Written::Turned(refusal) => {
-            print_refusal(refusal);
-            print_kept(room, byte);
-            io::write_all(STDOUT_FILENO, b"\n");
+            print_refusal(rt, refusal);
+            print_kept(rt, room, byte);
+            print_bytes(rt, b"\n");
         }
         Written::Bytes(n) => {
             let size = room.len();
             let written = value(room, Span { start: 0, size: n });
-            print_number(b"wrote ", n);
-            print_number(b" sum ", checksum(written, false) as usize);
-            print_kept(value(room, Span { start: n, size }), byte);
-            io::write_all(STDOUT_FILENO, b" ");
-            print_reading(read(written));
+            print_number(rt, b"wrote ", n);
+            print_number(rt, b" sum ", checksum(written, false) as usize);
+            print_kept(rt, value(room, Span { start: n, size }), byte);
+            print_bytes(rt, b" ");
+            print_reading(rt, read(written));
         }
     }
 }
@@ -66,35 +67,35 @@ fn tried(case: &[u8], room: &mut [u8]) -> Written
     )
 }
 
-fn print_case(case: &[u8]) {
+fn print_case<R: Print>(rt: &R, case: &[u8]) {
     if case.len() < HEAD_BYTES {
         return;
     }
     let byte = case[2];
     let mut room = filled(byte);
     let answer = tried(case, &mut room);
-    print_answer(answer, &room, byte);
+    print_answer(rt, answer, &room, byte);
 }
 
-fn print_row(row: &[u8]) {
+fn print_row<R: Print>(rt: &R, row: &[u8]) {
     let mut at = 0;
     while at < row.len() {
-        print_case(bytes_at(row, at));
+        print_case(rt, bytes_at(row, at));
         at = next_place(row, at);
     }
 }
 
-fn print_argument(i: usize) {
-    let mut row = io::large_buffer();
-    let got = read_argument(i, &mut row);
-    print_row(&row[..got]);
+fn print_argument<R: Env + Files + Print>(rt: &R, i: usize) {
+    let mut row = [0u8; MOST_READ];
+    let got = read_argument(rt, i, &mut row);
+    print_row(rt, &row[..got]);
 }
 
-fn main() {
-    let count = os::arg_count();
+fn main(rt: HostRuntime) {
+    let count = argument_count(&rt);
     let mut i = 1;
     while i < count {
-        print_argument(i);
+        print_argument(&rt, i);
         i += 1;
     }
 }
