@@ -3,7 +3,7 @@
 use Prim.Native.Nat.{ℕ, suc, ◌<◌}
 use native.Mathlib.Omega.{arith}
 use mathlib.Core.Path.{◌≡◌, refl, sym, ap, subst}
-use mathlib.Core.Bool.{true, not}
+use mathlib.Core.Bool.{not}
 use mathlib.Core.List.{List, [], ◌∷◌, ◌++◌}
 use borrow.Author.Tests.{lt-ltb, le-leb, eq-eqb, ne_eqb}
 use lib.Dec.{eqb, ltb}

@@ -4,8 +4,8 @@ use Prim.Native.Nat.{ℕ, zero, suc, ◌+◌, ◌-◌, ◌≤◌, ◌<◌}
 use native.Mathlib.Omega.{arith}
 use native.Mathlib.Numerals.{add-one, sub-one}
 use mathlib.Core.Path.{◌≡◌, refl, sym, ◌∙◌, ap, ap₂}
-use mathlib.Core.List.{List, [], ◌∷◌, ◌++◌, map, append-nil}
-use lib.ListN.{length, take, drop, get_or, set, length-take, length-set, length-map, drop_of_length-le}
+use mathlib.Core.List.{List, [], ◌∷◌, ◌++◌, append-nil}
+use lib.ListN.{length, take, drop, get_or, set, length-take, length-set, drop_of_length-le}
 use lib.Seq.{
   length-take-le,
   take-take,

@@ -5,7 +5,6 @@ use native.Mathlib.Omega.{arith}
 use lib.ListN.{length}
 use Rattle.deployment.specs.Commands.{command_count, decoded}
 use Rattle.deployment.proofs.Records.{command_at_lem, command_past}
-use borrow.Author.Rules.{rules}
 use Rattle.commands.proofs.command_at.Goals as goal
 use Rattle.commands.proofs.command_at.Goals.{Else-commands-k}
 

@@ -1,7 +1,6 @@
 -- `commands` meets its contract, also where there is no type byte. Assumes nothing.
 use native.Mathlib.Omega.{arith}
 use Rattle.deployment.specs.Commands.{command_count}
-use borrow.Author.Rules.{rules}
 use Rattle.commands.proofs.commands.Goals as goal
 
 pub returns-then-script-eq0 : goal.returns-then-script-eq0

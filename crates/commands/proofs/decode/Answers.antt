@@ -1,9 +1,7 @@
 -- `decode` meets its contract: the type's test, then the command of the code. Assumes nothing.
 use mathlib.Core.Path.{sym, ◌∙◌}
-use Rattle.policy.proofs.Tests.{fails, passes}
 use Rattle.deployment.specs.Values.{command_from}
 use Rattle.deployment.specs.Commands.{decoded}
-use borrow.Author.Rules.{rules}
 use Rattle.commands.proofs.decode.Goals as goal
 
 pub returns-then-not-allows : goal.returns-then-not-allows

@@ -4,7 +4,6 @@ use mathlib.Core.Path.{◌≡◌}
 use native.Mathlib.Omega.{arith}
 use Rattle.deployment.specs.Bytes.{bytes_of}
 use Rattle.deployment.specs.Values.{coded_bytes}
-use borrow.Author.Rules.{rules}
 use Rattle.commands.proofs.five.Goals as goal
 
 pub returns : goal.returns

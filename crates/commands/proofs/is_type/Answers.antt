@@ -9,7 +9,6 @@ use Rattle.policy.specs.Command.{codes_of, is_type}
 use Rattle.policy.proofs.Tests.{by_test, never, falsely}
 use Rattle.policy.proofs.Lists.{mem_in}
 use Rattle.policy.proofs.Types.{is_type_lem, type_is, script_types}
-use borrow.Author.Rules.{rules}
 use Rattle.commands.proofs.is_type.Goals as goal
 
 by_code : (type code : ℕ) → mem code (codes_of type) ≡ true → is_type type ≡ true

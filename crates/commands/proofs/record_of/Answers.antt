@@ -1,6 +1,5 @@
 -- `record_of` meets its contract: each command by its code and its two numbers, as `coded` has them. Assumes nothing.
 use Rattle.policy.specs.Command.{coded}
-use borrow.Author.Rules.{rules}
 use Rattle.commands.proofs.record_of.Goals as goal
 
 pub returns-in-App : goal.returns-in-App

@@ -1,7 +1,6 @@
 -- `in_words` meets its contract, command by command: only the second number of a move is the maker's own. Assumes nothing.
 use Rattle.policy.specs.Command.{coded}
 use Rattle.console.specs.Makers.{said, worded}
-use borrow.Author.Rules.{rules}
 use Rattle.console.proofs.in_words.Goals as goal
 
 pub returns-in-App : goal.returns-in-App

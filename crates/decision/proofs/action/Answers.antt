@@ -10,7 +10,6 @@ use Rattle.policy.specs.Rule.{says}
 use Rattle.deployment.specs.Values.{action_of}
 use Rattle.deployment.specs.Catalogue.{record_count, catalogue_of}
 use Rattle.deployment.proofs.Records.{record_there, record_inside, record_outside, says_byte, says_outside}
-use borrow.Author.Rules.{rules}
 use Rattle.decision.proofs.action.Goals as goal
 use Rattle.decision.proofs.action.Goals.{Else-rule-ne-RULE_BYTES}
 

@@ -1,14 +1,13 @@
 -- `decided` meets its contract. The loop's invariant: of the list's rules `left` are left to try, and none of those before them matches.
 -- The measure is `left`. Assumes nothing.
-use Prim.Native.Nat.{◌≤◌, ◌+◌, ◌-◌}
+use Prim.Native.Nat.{◌+◌, ◌-◌}
 use native.Mathlib.Nat.{sub_self}
 use native.Mathlib.Omega.{arith}
 use mathlib.Core.Path.{◌≡◌, sym}
-use borrow.Author.Rules.{rules}
 use Rattle.policy.specs.Policy.{Matching, Policy, under, matching}
 use Rattle.deployment.specs.Values.{numbers_of}
 use Rattle.deployment.specs.Catalogue.{catalogue_of}
-use Rattle.decision.proofs.FirstMatch.{Passed, passed_none, passed_more, decides_here, decides_none}
+use Rattle.decision.proofs.FirstMatch.{passed_none, passed_more, decides_here, decides_none}
 use Rattle.decision.proofs.decided.Goals as goal
 use Rattle.decision.proofs.decided.Goals.{Start}
 

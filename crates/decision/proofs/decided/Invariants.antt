@@ -1,12 +1,8 @@
-use Prim.Native.Nat.{◌≤◌, ◌+◌, ◌-◌}
-use native.Mathlib.Nat.{sub_self}
-use native.Mathlib.Omega.{arith}
-use mathlib.Core.Path.{◌≡◌, sym}
-use borrow.Author.Rules.{rules}
-use Rattle.policy.specs.Policy.{Matching, Policy, under, matching}
+use Prim.Native.Nat.{◌≤◌, ◌-◌}
+use Rattle.policy.specs.Policy.{under, matching}
 use Rattle.deployment.specs.Values.{numbers_of}
 use Rattle.deployment.specs.Catalogue.{catalogue_of}
-use Rattle.decision.proofs.FirstMatch.{Passed, passed_none, passed_more, decides_here, decides_none}
+use Rattle.decision.proofs.FirstMatch.{Passed}
 use Rattle.decision.proofs.decided.Given as goal
 
 abbrev pub invariant-loop-left : goal.invariant-loop-left

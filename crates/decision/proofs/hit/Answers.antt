@@ -6,7 +6,6 @@ use lib.ListN.{length}
 use Rattle.policy.specs.Rule.{matches}
 use Rattle.deployment.specs.Values.{rule_of}
 use Rattle.deployment.proofs.Records.{record_there, record_inside, record_outside, hits_record, hits_outside}
-use borrow.Author.Rules.{rules}
 use Rattle.decision.proofs.hit.Goals as goal
 
 pub returns : goal.returns

@@ -5,7 +5,6 @@ use native.Mathlib.Omega.{arith}
 use mathlib.Core.Path.{sym}
 use Rattle.deployment.proofs.Records.{number_byte}
 use Rattle.decision.proofs.Ranges.{lies_below, lies_above}
-use borrow.Author.Rules.{rules}
 use Rattle.decision.proofs.lies_one.Goals as goal
 
 pub returns-then-rule-at : goal.returns-then-rule-at

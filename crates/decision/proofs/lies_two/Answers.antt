@@ -5,7 +5,6 @@ use native.Mathlib.Omega.{arith}
 use Rattle.deployment.specs.Bytes.{number, part}
 use Rattle.deployment.proofs.Records.{number_there}
 use Rattle.decision.proofs.Ranges.{lies_below, lies_above}
-use borrow.Author.Rules.{rules}
 use Rattle.decision.proofs.lies_two.Goals as goal
 use Rattle.decision.proofs.lies_two.Goals.{After-two_at}
 

@@ -3,8 +3,6 @@ use mathlib.Core.Path.{◌≡◌, sym, ◌∙◌}
 use mathlib.Core.Bool.{true}
 use Rattle.policy.specs.Rule.{lies, matches}
 use Rattle.deployment.specs.Values.{rule_of, range_at}
-use Rattle.policy.proofs.Tests.{fails, passes}
-use borrow.Author.Rules.{rules}
 use Rattle.decision.proofs.record_matches.Goals as goal
 use Rattle.decision.proofs.record_matches.Goals.{Else-not-lies_four, Else-not-lies_four-2, Else-not-lies_one, Else-not-lies_two}
 

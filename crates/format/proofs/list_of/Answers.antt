@@ -1,9 +1,8 @@
 -- `list_of` meets its contract: the first k slots hold the first k numbers. Assumes nothing.
-use Prim.Native.Nat.{◌≤◌, ◌-◌}
+use Prim.Native.Nat.{◌≤◌}
 use native.Mathlib.Omega.{arith}
 use mathlib.Core.Path.{◌≡◌, refl, ◌∙◌, ap}
 use lib.ListN.{length, take, length-set}
-use borrow.Author.Rules.{rules}
 use Rattle.running.specs.Running.{view}
 use Rattle.deployment.specs.Values.{numbers_of}
 use Rattle.format.proofs.Copying.{copied_further, cut_short}
@@ -18,7 +17,7 @@ shortest c =
     let numbers = numbers_of c.args.value.now in
     let counted = c.listed-count.ensures in
     elim c.if-count-lt-MOST_RULES.branch [
-        then-count-lt-MOST_RULES w ↦ (omega arith, omega arith, rw (w.top-is ∙ counted) (cut_short numbers 1024 (omega arith)))
+      | then-count-lt-MOST_RULES w ↦ (omega arith, omega arith, rw (w.top-is ∙ counted) (cut_short numbers 1024 (omega arith)))
       | else-count-lt-MOST_RULES w ↦ (omega arith, omega arith, ap (λ n. take n numbers) w.top-is)
     ]
 

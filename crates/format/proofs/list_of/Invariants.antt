@@ -1,12 +1,7 @@
 use Prim.Native.Nat.{◌≤◌, ◌-◌}
-use native.Mathlib.Omega.{arith}
-use mathlib.Core.Path.{◌≡◌, refl, ◌∙◌, ap}
-use mathlib.Core.Logic.{⊎_elim}
-use lib.ListN.{length, take, length-set}
-use borrow.Author.Rules.{rules}
-use Rattle.running.specs.Running.{view}
+use mathlib.Core.Path.{◌≡◌}
+use lib.ListN.{length, take}
 use Rattle.deployment.specs.Values.{numbers_of}
-use Rattle.format.proofs.Copying.{copied_further, cut_short}
 use Rattle.format.proofs.list_of.Given as goal
 
 abbrev pub invariant-loop-k : goal.invariant-loop-k

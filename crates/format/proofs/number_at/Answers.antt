@@ -1,10 +1,9 @@
 -- `number_at` meets its contract: the k-th number of a list value is that of the two bytes from 2k on, and past the last it is 0.
 -- Assumes nothing.
-use Prim.Native.Nat.{◌+◌, ◌*◌, ◌/◌, ◌≤◌, ◌<◌}
+use Prim.Native.Nat.{◌*◌, ◌/◌, ◌<◌}
 use native.Mathlib.Omega.{arith}
 use mathlib.Core.Path.{◌≡◌, sym, ◌∙◌, ap}
 use lib.ListN.{length}
-use borrow.Author.Rules.{rules}
 use Rattle.deployment.specs.Bytes.{number}
 use Rattle.deployment.proofs.Records.{numbers_length, number_at_lem, number_past, part_elements}
 use Rattle.format.proofs.number_at.Goals as goal

@@ -5,7 +5,6 @@ use mathlib.Core.Path.{sym, ◌∙◌}
 use lib.ListN.{length}
 use Rattle.deployment.specs.Catalogue.{record_count}
 use Rattle.deployment.proofs.Records.{part_between, piece_fits, record_there, record_past}
-use borrow.Author.Rules.{rules}
 use Rattle.format.proofs.record_at.Goals as goal
 use Rattle.format.proofs.record_at.Goals.{Else-rules-step}
 

@@ -1,13 +1,11 @@
 -- `deployment::store` meets its contract. The loop's invariant: the place is the old one with the first k bytes of the value stored from
 -- `at` on. The measure is what is left of the value. Assumes nothing.
-use Prim.Native.Nat.{ℕ, ◌+◌, ◌-◌, ◌≤◌, zero-le}
+use Prim.Native.Nat.{ℕ, ◌+◌, zero-le}
 use native.Mathlib.Omega.{arith}
-use mathlib.Core.Path.{◌≡◌, refl, sym, ◌∙◌, ap}
+use mathlib.Core.Path.{refl, sym, ◌∙◌, ap}
 use mathlib.Core.Logic.{inl, inr}
 use mathlib.Core.List.{List}
-use lib.ListN.{length, take, set, get_or, length-set}
-use lib.Seq.{sets}
-use borrow.Author.Tests.{ltb-true, ltb-false}
+use lib.ListN.{set, get_or, length-set}
 use Rattle.deployment.proofs.Storing.{sets_behind, copied_more, copied_all}
 use Rattle.format.proofs.store.Goals as goal
 

@@ -1,5 +1,4 @@
 -- `two` meets its contract: its sum is the number that the two bytes are. Assumes nothing.
-use borrow.Author.Rules.{rules}
 use native.Mathlib.Omega.{arith}
 use Rattle.deployment.specs.Bytes.{number_from, number}
 use Rattle.format.proofs.two.Goals as goal

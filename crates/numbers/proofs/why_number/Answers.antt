@@ -1,7 +1,4 @@
 -- `why_number` meets its contract: each case has the number of the table. Assumes nothing.
-use borrow.Author.Rules.{rules}
-use Rattle.numbers.proofs.why_number.Reads as reads
-use Rattle.numbers.proofs.why_number.Lts as lts
 use Rattle.numbers.proofs.why_number.Goals as goal
 
 pub returns-in-Cut : goal.returns-in-Cut

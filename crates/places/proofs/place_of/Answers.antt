@@ -2,7 +2,6 @@
 use native.Mathlib.Omega.{arith}
 use mathlib.Core.Path.{sym}
 use lib.ListN.{get_or-eq_default}
-use borrow.Author.Rules.{rules}
 use Rattle.places.proofs.place_of.Goals as goal
 
 pub returns-then-places-at : goal.returns-then-places-at

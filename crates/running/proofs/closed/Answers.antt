@@ -1,9 +1,7 @@
 -- `closed` takes a rule out. The loop's invariant: the first `len` slots without the one at index k show what they showed without the one at
 -- index `at`; the measure is what is left of `len`. Assumes nothing.
-use Prim.Native.Nat.{◌<◌, ◌-◌}
 use borrow.Author.Rules.{rules}
-use mathlib.Core.Path.{◌≡◌, ◌∙◌}
-use lib.ListN.{length}
+use mathlib.Core.Path.{◌∙◌}
 use Rattle.running.proofs.Slots.{gap, gap_up, gap_closed}
 use Rattle.running.proofs.closed.Goals as goal
 

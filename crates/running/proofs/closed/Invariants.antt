@@ -1,8 +1,7 @@
 use Prim.Native.Nat.{◌<◌, ◌-◌}
-use borrow.Author.Rules.{rules}
-use mathlib.Core.Path.{◌≡◌, ◌∙◌}
+use mathlib.Core.Path.{◌≡◌}
 use lib.ListN.{length}
-use Rattle.running.proofs.Slots.{gap, gap_up, gap_closed}
+use Rattle.running.proofs.Slots.{gap}
 use Rattle.running.proofs.closed.Given as goal
 
 abbrev pub invariant-loop-k : goal.invariant-loop-k

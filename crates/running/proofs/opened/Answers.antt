@@ -1,11 +1,10 @@
 -- `opened` puts a rule in. The loop's invariant: one more slot than `len` without the one at index k shows what the first `len` showed;
 -- the measure is k. Assumes nothing.
-use Prim.Native.Nat.{suc, ◌≤◌}
+use Prim.Native.Nat.{suc}
 use native.Mathlib.Omega.{arith}
 use borrow.Author.Rules.{rules}
-use mathlib.Core.Path.{◌≡◌, ◌∙◌}
-use lib.ListN.{length, take}
-use Rattle.running.proofs.Slots.{gap, gap_last, gap_down, gap_opened}
+use mathlib.Core.Path.{◌∙◌}
+use Rattle.running.proofs.Slots.{gap_last, gap_down, gap_opened}
 use Rattle.running.proofs.opened.Goals as goal
 
 pub loop-k-init : goal.loop-k-init

@@ -1,9 +1,7 @@
 use Prim.Native.Nat.{suc, ◌≤◌}
-use native.Mathlib.Omega.{arith}
-use borrow.Author.Rules.{rules}
-use mathlib.Core.Path.{◌≡◌, ◌∙◌}
+use mathlib.Core.Path.{◌≡◌}
 use lib.ListN.{length, take}
-use Rattle.running.proofs.Slots.{gap, gap_last, gap_down, gap_opened}
+use Rattle.running.proofs.Slots.{gap}
 use Rattle.running.proofs.opened.Given as goal
 
 abbrev pub invariant-loop-k : goal.invariant-loop-k

@@ -1,13 +1,10 @@
 -- `outside` is the test of the definition, turned. The loop's invariant: the rules from index k on are all below `size` exactly when all of
 -- them are; the measure is what is left of `len`. Assumes nothing.
-use Prim.Native.Nat.{◌-◌}
 use borrow.Author.Rules.{rules}
 use borrow.Author.Tests.{lt-ltb, le-ltb}
-use mathlib.Core.Path.{◌≡◌, sym, ◌∙◌, ap}
+use mathlib.Core.Path.{sym, ◌∙◌, ap}
 use mathlib.Core.Bool.{not}
 use lib.Dec.{ltb}
-use lib.ListN.{take, drop}
-use Rattle.policy.specs.Lists.{all}
 use Rattle.running.proofs.Names.{all_one, all_not, all_none}
 use Rattle.running.proofs.outside.Goals as goal
 

@@ -1,12 +1,8 @@
 use Prim.Native.Nat.{◌-◌}
-use borrow.Author.Rules.{rules}
-use borrow.Author.Tests.{lt-ltb, le-ltb}
-use mathlib.Core.Path.{◌≡◌, sym, ◌∙◌, ap}
-use mathlib.Core.Bool.{not}
+use mathlib.Core.Path.{◌≡◌}
 use lib.Dec.{ltb}
 use lib.ListN.{take, drop}
 use Rattle.policy.specs.Lists.{all}
-use Rattle.running.proofs.Names.{all_one, all_not, all_none}
 use Rattle.running.proofs.outside.Given as goal
 
 abbrev pub invariant-loop-k : goal.invariant-loop-k

@@ -1,6 +1,6 @@
 -- `twice` is the test of the definition, turned. The loop's invariant: the rules from index k on differ, and `seen` marks exactly those;
 -- the measure is k. Assumes nothing.
-use Prim.Native.Nat.{◌≤◌, ◌<◌, ◌-◌}
+use Prim.Native.Nat.{◌<◌, ◌-◌}
 use native.Mathlib.Omega.{arith}
 use borrow.Author.Rules.{rules}
 use mathlib.Core.Path.{◌≡◌, sym, ap}
@@ -8,8 +8,8 @@ use mathlib.Core.Bool.{not}
 use mathlib.Core.List.{◌∷◌}
 use borrow.Author.Tests.{ltb-true}
 use lib.Dec.{ltb}
-use lib.ListN.{length, take, drop, get_or, length-take}
-use Rattle.running.proofs.Names.{before_cons, all_at, Seen, seen_none, seen_one, seen_twice}
+use lib.ListN.{take, drop, get_or, length-take}
+use Rattle.running.proofs.Names.{before_cons, all_at, seen_none, seen_one, seen_twice}
 use Rattle.running.proofs.twice.Goals as goal
 use Rattle.running.proofs.twice.Goals.{In-loop-k}
 

@@ -2,7 +2,6 @@
 use native.Mathlib.Omega.{arith}
 use lib.Seq.{set_out}
 use mathlib.Core.Path.{sym}
-use borrow.Author.Rules.{rules}
 use Rattle.places.proofs.Places.cleared.Goals as goal
 
 pub returns-else-at-lt-MOST_RULES : goal.returns-else-at-lt-MOST_RULES

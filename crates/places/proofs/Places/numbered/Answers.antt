@@ -1,8 +1,7 @@
 -- `numbered` gives the array that the definition gives. The loop's invariant: numbering what is left of the list, from index k on, gives what
 -- numbering it from the first index on gave; the measure is what is left of the list's length. Assumes nothing.
-use Prim.Native.Nat.{ℕ, suc, ◌+◌, ◌-◌, ◌≤◌, ◌<◌}
+use Prim.Native.Nat.{ℕ, suc, ◌+◌, ◌≤◌, ◌<◌}
 use native.Mathlib.Omega.{arith}
-use borrow.Author.Rules.{rules}
 use mathlib.Core.Path.{◌≡◌, refl, sym, ◌∙◌, ap}
 use mathlib.Core.List.{List}
 use lib.ListN.{length, take, drop, get_or, set, length-set}
@@ -51,7 +50,7 @@ stored : (c : Joined-at-lt-MOST_RULES) →
     ≡ set c.loop-k.of (get_or c.args.list.rules c.loop-k.k 0) (c.loop-k.k + 1)
 stored c =
     elim c.if-at-lt-MOST_RULES.branch [
-        then-at-lt-MOST_RULES w ↦ w.of-is
+      | then-at-lt-MOST_RULES w ↦ w.of-is
       | else-at-lt-MOST_RULES w ↦ w.of-is ∙ sym (set_out c.loop-k.of _ _ (omega (arith, w.if-at-lt-MOST_RULES.false, c.loop-k.invariant.0)))
     ]
 

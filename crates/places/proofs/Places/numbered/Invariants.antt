@@ -1,14 +1,7 @@
-use Prim.Native.Nat.{ℕ, suc, ◌+◌, ◌-◌, ◌≤◌, ◌<◌}
-use native.Mathlib.Omega.{arith}
-use borrow.Author.Rules.{rules}
-use mathlib.Core.Path.{◌≡◌, refl, sym, ◌∙◌, ap}
-use mathlib.Core.Logic.{⊎_elim}
-use mathlib.Core.List.{List}
-use lib.ListN.{length, take, drop, get_or, set, length-set}
-use lib.Seq.{set_out}
+use Prim.Native.Nat.{suc, ◌-◌}
+use mathlib.Core.Path.{◌≡◌}
+use lib.ListN.{length, take, drop}
 use Rattle.places.specs.Places.{renumbered}
-use Rattle.running.proofs.Edits.{view_count, view_fits}
-use Rattle.places.proofs.Numbering.{numbers_one, numbers_none}
 use Rattle.places.proofs.Places.numbered.Given as goal
 
 abbrev pub invariant-loop-k : goal.invariant-loop-k

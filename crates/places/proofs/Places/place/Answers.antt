@@ -2,7 +2,6 @@
 use native.Mathlib.Omega.{arith}
 use lib.ListN.{get_or-eq_default}
 use mathlib.Core.Path.{sym}
-use borrow.Author.Rules.{rules}
 use Rattle.places.proofs.Places.place.Goals as goal
 
 pub returns-else-at-lt-MOST_RULES : goal.returns-else-at-lt-MOST_RULES

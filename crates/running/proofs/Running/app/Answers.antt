@@ -6,7 +6,6 @@ use borrow.Author.Tests.{lt-ltb, le-ltb, eq-eqb, ne_eqb}
 use lib.Dec.{eqb}
 use Rattle.running.specs.Running.{view, appended, roomy}
 use Rattle.running.proofs.Edits.{fails, goes, gives, view_count, shows_appended}
-use borrow.Author.Rules.{rules}
 use Rattle.running.proofs.Running.app.Goals as goal
 use Rattle.running.proofs.Running.app.Goals.{Else-place-ne0}
 

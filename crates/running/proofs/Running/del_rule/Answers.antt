@@ -9,7 +9,6 @@ use lib.ListN.{length}
 use Rattle.policy.specs.Command.{within}
 use Rattle.running.specs.Running.{view, rule_deleted}
 use Rattle.running.proofs.Edits.{fails, goes, gives, out_of_range, in_range, place_bounds, view_count, shows_lifted}
-use borrow.Author.Rules.{rules}
 use Rattle.running.proofs.Running.del_rule.Goals as goal
 use Rattle.running.proofs.Running.del_rule.Goals.{Else-not-in_range}
 

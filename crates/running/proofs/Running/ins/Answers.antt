@@ -11,7 +11,6 @@ use Rattle.policy.specs.Command.{within, failed}
 use Rattle.policy.specs.declared.Fault.TheVariants.{Number}
 use Rattle.running.specs.Running.{view, shown, given, inserted, roomy}
 use Rattle.running.proofs.Edits.{fails, goes, gives, out_of_range, in_range, within_bounds, view_count, view_fits, shows_placed}
-use borrow.Author.Rules.{rules}
 use Rattle.running.proofs.Running.ins.Goals as goal
 use Rattle.running.proofs.Running.ins.Goals.{After-count-len, Else-not-in_range}
 

@@ -11,7 +11,6 @@ use Rattle.policy.specs.Lists.{all, differ}
 use Rattle.running.specs.Running.{view}
 use Rattle.running.proofs.Edits.{view_count, view_fits}
 use Rattle.running.proofs.Names.{all_wider, names_outside, names_twice, names_once}
-use borrow.Author.Rules.{rules}
 use Rattle.running.proofs.Running.naming.Goals as goal
 use Rattle.running.proofs.Running.naming.Goals.{After-count-len, After-outside, After-twice, Else-outside, Joined-size-lt-MOST_RULES, then-size-lt-MOST_RULES, else-size-lt-MOST_RULES}
 
@@ -24,9 +23,9 @@ outside-requires c = fits (goal.at.outside-requires c).After-count-len
 
 top_is : (c : Joined-size-lt-MOST_RULES) → c.if-size-lt-MOST_RULES.top ≡ min c.args.size 1024
 top_is c = elim c.if-size-lt-MOST_RULES.branch [
-    then-size-lt-MOST_RULES w ↦ omega (arith, w.if-size-lt-MOST_RULES.true, w.top-is)
+  | then-size-lt-MOST_RULES w ↦ omega (arith, w.if-size-lt-MOST_RULES.true, w.top-is)
   | else-size-lt-MOST_RULES w ↦ omega (arith, w.if-size-lt-MOST_RULES.false, w.top-is)
-  ]
+]
 
 -- what the first test says, of the list that is shown
 outside_is : (c : After-outside) →
