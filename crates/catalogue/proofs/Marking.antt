@@ -1,6 +1,6 @@
 -- Marks: equal rules have equal marks, so a rule whose mark is new differs from all before it. The idea: equal rules have the same bytes
 -- behind their actions, and a mark is made of these. Assumes nothing.
-use Prim.Native.Nat.{ℕ, zero, suc, ◌+◌, ◌*◌, ◌-◌, ◌/◌, ◌%◌, ◌≤◌, ◌<◌}
+use Prim.Native.Nat.{ℕ, suc, ◌+◌, ◌*◌, ◌/◌, ◌%◌, ◌≤◌, ◌<◌}
 use native.Mathlib.Numerals.{add-one}
 use native.Mathlib.Omega.{arith}
 use mathlib.Core.Path.{◌≡◌, refl, sym, ◌∙◌, ap, subst}
@@ -15,9 +15,8 @@ use Rattle.policy.specs.Lists.{same}
 use Rattle.policy.specs.Rule.{Rule}
 use Rattle.policy.proofs.Tests.{by_test, never, and_both, falsely, or_left, or_right, or_either}
 use Rattle.policy.proofs.Lists.{same_eq}
-use Rattle.deployment.specs.Bytes.{part}
 use Rattle.deployment.specs.Values.{rule_width, rule_of, same_rule, known}
-use Rattle.deployment.specs.Catalogue.{record_count, catalogue_of}
+use Rattle.deployment.specs.Catalogue.{catalogue_of}
 use Rattle.deployment.specs.Properties.{AreBytes}
 use Rattle.deployment.proofs.Bytes.{length_part, are_bytes_part}
 use Rattle.deployment.proofs.Records.{record_at}

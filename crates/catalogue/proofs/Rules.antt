@@ -1,7 +1,7 @@
 -- Rules as bytes: when a range rises, when two rules are equal, and whether a rule is known to a catalogue. Two rules are equal where
 -- their actions are and the bytes behind these, since numbers of one width have the same bytes only where they are equal.
 -- Assumes nothing.
-use Prim.Native.Nat.{ℕ, suc, ◌+◌, ◌*◌, ◌≤◌, ◌<◌, min}
+use Prim.Native.Nat.{ℕ, ◌+◌, ◌*◌, ◌≤◌, ◌<◌, min}
 use native.Mathlib.Nat.{suc-mul, mul-le-mul_right, le-div_iff_mul-le, min-eq_left}
 use native.Mathlib.Numerals.{add-one}
 use native.Mathlib.Omega.{arith}

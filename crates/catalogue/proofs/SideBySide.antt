@@ -2,11 +2,11 @@
 -- Each law says what one turn needs of the rests. Assumes nothing.
 use Prim.Native.Nat.{ℕ, ◌+◌, ◌≤◌, ◌<◌}
 use native.Mathlib.Numerals.{add-one}
-use mathlib.Core.Path.{◌≡◌, refl, sym, ◌∙◌, ap}
+use mathlib.Core.Path.{◌≡◌, refl, sym, ap}
 use mathlib.Core.Bool.{true, false}
 use mathlib.Core.List.{List, [], ◌∷◌}
-use lib.ListN.{length, take, drop, get_or, set, drop_of_length-le}
-use lib.Seq.{take_all, take-length, take-suc, take-suc-set, drop-cons}
+use lib.ListN.{length, drop, get_or, drop_of_length-le}
+use lib.Seq.{drop-cons}
 use borrow.Author.Tests.{eq-eqb, ne_eqb}
 use Rattle.policy.specs.Lists.{occurs, same}
 use Rattle.policy.proofs.Tests.{falsely}

@@ -1,6 +1,6 @@
 -- Any two answers that a function of the ordering rule allows are equal, by its contract as the checker reads it. Assumes nothing.
 use Prim.Native.Nat.{ℕ}
-use mathlib.Core.Path.{◌≡◌, refl, sym, ◌∙◌, ap}
+use mathlib.Core.Path.{◌≡◌, sym, ◌∙◌, ap}
 use mathlib.Core.Bool.{Bool}
 use mathlib.Core.Option.{Option, none, some}
 use Rattle.ordering.proofs.is_full.Reads as is-full

@@ -1,11 +1,10 @@
 -- `catalogue_checked` meets its contract: the rules from the k-th on, read after the first k, say what the whole value says.
 -- Assumes nothing.
-use Prim.Native.Nat.{◌+◌, ◌*◌, ◌-◌, ◌%◌, ◌≤◌}
+use Prim.Native.Nat.{◌*◌, ◌%◌}
 use native.Mathlib.Nat.{add-zero}
 use native.Mathlib.Omega.{arith}
 use mathlib.Core.Path.{◌≡◌, sym, ◌∙◌}
 use lib.ListN.{length, take}
-use borrow.Author.Rules.{rules}
 use borrow.Author.Tests.{eq-eqb, ne_eqb, le-leb, lt-leb}
 use Rattle.deployment.specs.Bytes.{part}
 use Rattle.deployment.specs.Catalogue.{record_count, catalogue_of}
@@ -13,7 +12,7 @@ use Rattle.deployment.specs.FieldValues.{catalogue_value}
 use Rattle.deployment.proofs.Records.{record_at, record_there}
 use Rattle.catalogue.specs.Answers.{checking, rule_value}
 use Rattle.catalogue.specs.RuleMarks.{Apart}
-use Rattle.catalogue.proofs.Catalogue.{nothing_missed, read_on, read_further, read_stops, read_all}
+use Rattle.catalogue.proofs.Catalogue.{nothing_missed, read_further, read_stops, read_all}
 use Rattle.catalogue.proofs.catalogue_checked.Goals as goal
 use Rattle.catalogue.proofs.catalogue_checked.Goals.{After-rule_tested-c}
 
@@ -44,8 +43,7 @@ returns-then-rules c =
 
 pub loop-k-init : goal.loop-k-init
 unfolding catalogue_value
-loop-k-init c =
-    (
+loop-k-init c = (
   omega arith,
   rw (
     eq-eqb (length c.args.rules.now % 27) 0 c.if-rules-ne0.false,

@@ -1,17 +1,8 @@
-use Prim.Native.Nat.{◌+◌, ◌*◌, ◌-◌, ◌%◌, ◌≤◌}
-use native.Mathlib.Nat.{add-zero}
-use native.Mathlib.Omega.{arith}
-use mathlib.Core.Path.{◌≡◌, sym, ◌∙◌}
-use lib.ListN.{length, take}
-use borrow.Author.Rules.{rules}
-use borrow.Author.Tests.{eq-eqb, ne_eqb, le-leb, lt-leb}
-use Rattle.deployment.specs.Bytes.{part}
-use Rattle.deployment.specs.Catalogue.{record_count, catalogue_of}
+use Prim.Native.Nat.{◌-◌, ◌≤◌}
+use mathlib.Core.Path.{◌≡◌}
 use Rattle.deployment.specs.FieldValues.{catalogue_value}
-use Rattle.deployment.proofs.Records.{record_at, record_there}
-use Rattle.catalogue.specs.Answers.{checking, rule_value}
-use Rattle.catalogue.specs.RuleMarks.{Apart}
-use Rattle.catalogue.proofs.Catalogue.{nothing_missed, read_on, read_further, read_stops, read_all}
+use Rattle.catalogue.specs.Answers.{checking}
+use Rattle.catalogue.proofs.Catalogue.{read_on}
 use Rattle.catalogue.proofs.catalogue_checked.Given as goal
 
 abbrev pub invariant-loop-k : goal.invariant-loop-k

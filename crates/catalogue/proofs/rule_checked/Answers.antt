@@ -1,7 +1,6 @@
 -- `rule_checked` meets its contract: it is the test of a rule of which nothing is said. Assumes nothing.
 use native.Mathlib.Omega.{arith}
 use mathlib.Core.Path.{◌∙◌}
-use borrow.Author.Rules.{rules}
 use Rattle.deployment.specs.Catalogue.{catalogue_of}
 use Rattle.catalogue.proofs.Catalogue.{nothing_missed}
 use Rattle.catalogue.proofs.rule_checked.Goals as goal

@@ -1,14 +1,11 @@
 -- `decide_into` meets its contract: turned away for the flows' length, for the room, or all decisions written. Assumes nothing.
-use Prim.Native.Nat.{ℕ}
 use mathlib.Core.Path.{refl}
-use mathlib.Core.List.{List}
 use Rattle.policy.specs.Policy.{under, decide, matching}
 use Rattle.policy.specs.declared.Decision.{Decision}
 use Rattle.policy.specs.declared.Flow.{Flow}
 use Rattle.deployment.specs.Values.{numbers_of}
 use Rattle.deployment.specs.Catalogue.{catalogue_of}
 use Rattle.flows.proofs.ManyFlows.{uneven, no_room, written}
-use borrow.Author.Rules.{rules}
 use Rattle.flows.proofs.decide_into.Goals as goal
 use Rattle.flows.proofs.decide_into.Goals.{Start}
 

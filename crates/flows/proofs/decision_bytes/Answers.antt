@@ -2,7 +2,6 @@
 use Rattle.deployment.specs.Bytes.{bytes_of}
 use Rattle.deployment.specs.Flows.{decision_bytes}
 use Rattle.flows.proofs.ManyFlows.{action_is_byte}
-use borrow.Author.Rules.{rules}
 use Rattle.flows.proofs.decision_bytes.Goals as goal
 
 pub returns : goal.returns

@@ -5,7 +5,6 @@ use native.Mathlib.Omega.{arith}
 use Rattle.deployment.specs.Flows.{flow_of}
 use Rattle.deployment.proofs.Records.{part_between}
 use Rattle.flows.proofs.ManyFlows.{flow_read}
-use borrow.Author.Rules.{rules}
 use Rattle.flows.proofs.flow_at.Goals as goal
 
 pub returns : goal.returns

@@ -1,19 +1,9 @@
 -- `put_decisions` meets its contract. The loop's invariant: the decisions of the first k flows stand in the place, three bytes each.
 -- The measure is what is left of the flows. Assumes nothing.
-use Prim.Native.Nat.{ℕ, ◌+◌, ◌-◌, ◌*◌, ◌/◌, ◌≤◌, ◌<◌, zero-le}
+use Prim.Native.Nat.{zero-le}
 use native.Mathlib.Omega.{arith}
-use mathlib.Core.Path.{◌≡◌}
-use mathlib.Core.List.{List}
-use lib.ListN.{length}
-use Rattle.policy.specs.Policy.{under, decide, matching}
-use Rattle.policy.specs.declared.Action.{Action}
-use Rattle.policy.specs.declared.Decision.{Decision}
-use Rattle.policy.specs.declared.Flow.{Flow}
-use Rattle.deployment.specs.Values.{numbers_of}
-use Rattle.deployment.specs.Catalogue.{catalogue_of}
 use Rattle.deployment.proofs.Storing.{stored_long}
-use Rattle.flows.proofs.ManyFlows.{Put, none_put, one_more_put, all_put}
-use borrow.Author.Rules.{rules}
+use Rattle.flows.proofs.ManyFlows.{none_put, one_more_put, all_put}
 use Rattle.flows.proofs.put_decisions.Goals as goal
 use Rattle.flows.proofs.put_decisions.Invariants.{decides}
 

@@ -1,16 +1,12 @@
-use Prim.Native.Nat.{ℕ, ◌+◌, ◌-◌, ◌*◌, ◌/◌, ◌≤◌, ◌<◌, zero-le}
-use native.Mathlib.Omega.{arith}
-use mathlib.Core.Path.{◌≡◌}
+use Prim.Native.Nat.{ℕ, ◌-◌, ◌≤◌}
 use mathlib.Core.List.{List}
-use lib.ListN.{length}
 use Rattle.policy.specs.Policy.{under, decide, matching}
 use Rattle.policy.specs.declared.Action.{Action}
 use Rattle.policy.specs.declared.Decision.{Decision}
 use Rattle.policy.specs.declared.Flow.{Flow}
 use Rattle.deployment.specs.Values.{numbers_of}
 use Rattle.deployment.specs.Catalogue.{catalogue_of}
-use Rattle.deployment.proofs.Storing.{stored_long}
-use Rattle.flows.proofs.ManyFlows.{Put, none_put, one_more_put, all_put}
+use Rattle.flows.proofs.ManyFlows.{Put}
 use borrow.Author.Rules.{rules}
 use Rattle.flows.proofs.put_decisions.Given as goal
 

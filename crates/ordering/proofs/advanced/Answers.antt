@@ -1,7 +1,6 @@
 -- `advanced` goes one further exactly where the test passes. Assumes nothing.
 use native.Mathlib.Omega.{arith}
 use mathlib.Core.Path.{sym, ◌∙◌}
-use borrow.Author.Rules.{rules}
 use Rattle.deployment.specs.Values.{numbers_of}
 use Rattle.deployment.proofs.Records.{numbers_length}
 use Rattle.ordering.specs.Fronts.{stands}

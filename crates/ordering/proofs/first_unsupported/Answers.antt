@@ -1,14 +1,12 @@
 -- `first_unsupported` meets its contract. Over the places: what is left of the list has the first unsupported place of the whole. At one place:
 -- a and b never pass the front parts by the rules before it, so a policy that comes to the place's own rule supports it, and where both are
 -- stuck neither does. Assumes nothing.
-use Prim.Native.Nat.{suc, ◌+◌, ◌≤◌, ◌-◌}
+use Prim.Native.Nat.{suc, ◌≤◌}
 use native.Mathlib.Omega.{arith}
-use mathlib.Core.Path.{◌≡◌, refl, sym, ◌∙◌, ap₂}
+use mathlib.Core.Path.{refl, sym, ◌∙◌, ap₂}
 use mathlib.Core.Bool.{◌||◌}
-use lib.ListN.{length, drop, get_or}
-use borrow.Author.Rules.{rules}
-use borrow.Author.Tests.{not-true, not-false, eqb-true, eqb-false}
-use Rattle.policy.specs.Judge.{supported, ordered, first_failing, first_unsupported}
+use lib.ListN.{get_or}
+use Rattle.policy.specs.Judge.{supported, ordered, first_unsupported}
 use Rattle.deployment.specs.Values.{numbers_of}
 use Rattle.policy.proofs.Tests.{never}
 use Rattle.ordering.specs.Fronts.{stands, front, is_at}
@@ -57,7 +55,7 @@ loop-next_a-smaller c =
     let fits' = front_fits test (numbers_of args.target.now) in
     let (la, fa, lb, fb) = ahead (goal.at.loop-next_a-smaller c).After-advanced-next_b in
     elim c.else-next_a-a.branch [
-        else-next_a-a-via-then-next_a-a+else-next_b-b w ↦ let moved = w.if-next_b-b.false in omega arith
+      | else-next_a-a-via-then-next_a-a+else-next_b-b w ↦ let moved = w.if-next_b-b.false in omega arith
       | else-next_a-a-via-else-next_a-a w ↦ let moved = w.if-next_a-a.false in omega arith
     ]
 
@@ -95,7 +93,7 @@ returns c =
     let target = numbers_of c.args.target.now in
     let test = stands c.args.places.now k in
     elim c.places-test.branch [
-        else-places-test w ↦
+      | else-places-test w ↦
           never (none_all (supported initial target l) 1 l (c.places.invariant.1 ∙ failing_none (supported initial target l) (suc k) l k w.places-test.false)) c.requires.1
       | then-places-test+then-loop-next_a-test+then-next_a-a+then-next_b-b w ↦
           let inside = w.places-test.true in

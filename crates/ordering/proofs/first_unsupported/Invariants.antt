@@ -1,17 +1,9 @@
 use Prim.Native.Nat.{suc, ◌+◌, ◌≤◌, ◌-◌}
-use native.Mathlib.Omega.{arith}
-use mathlib.Core.Path.{◌≡◌, refl, sym, ◌∙◌, ap₂}
-use mathlib.Core.Bool.{◌||◌}
-use mathlib.Core.Logic.{⊎_elim}
-use lib.ListN.{length, drop, get_or}
-use borrow.Author.Rules.{rules}
-use borrow.Author.Tests.{not-true, not-false, eqb-true, eqb-false}
-use Rattle.policy.specs.Judge.{supported, ordered, first_failing, first_unsupported}
+use mathlib.Core.Path.{◌≡◌}
+use lib.ListN.{length, drop}
+use Rattle.policy.specs.Judge.{supported, first_failing, first_unsupported}
 use Rattle.deployment.specs.Values.{numbers_of}
-use Rattle.policy.proofs.Tests.{never}
-use Rattle.ordering.specs.Fronts.{stands, front, is_at}
-use Rattle.ordering.proofs.Support.{front_fits, ahead_inside, ahead_later, ahead_stuck, supported_fronts, supported_next}
-use Rattle.ordering.proofs.Search.{failing_later, failing_here, failing_none, none_all}
+use Rattle.ordering.specs.Fronts.{stands, front}
 use Rattle.ordering.proofs.first_unsupported.Given as goal
 
 abbrev pub invariant-loop-next_a : goal.invariant-loop-next_a

@@ -1,10 +1,8 @@
 -- `front_part` meets its contract: the index never passes the longest front part, and stops where that ends. Assumes nothing.
-use Prim.Native.Nat.{suc, ◌≤◌, ◌-◌}
+use Prim.Native.Nat.{suc, ◌≤◌}
 use native.Mathlib.Numerals.{add-one}
 use native.Mathlib.Omega.{arith}
 use mathlib.Core.Path.{sym, ◌∙◌}
-use lib.ListN.{length}
-use borrow.Author.Rules.{rules}
 use Rattle.deployment.specs.Values.{numbers_of}
 use Rattle.deployment.proofs.Records.{numbers_length}
 use Rattle.ordering.specs.Fronts.{stands, front}

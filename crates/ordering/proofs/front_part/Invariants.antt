@@ -1,13 +1,7 @@
-use Prim.Native.Nat.{suc, ◌≤◌, ◌-◌}
-use native.Mathlib.Numerals.{add-one}
-use native.Mathlib.Omega.{arith}
-use mathlib.Core.Path.{sym, ◌∙◌}
+use Prim.Native.Nat.{◌≤◌, ◌-◌}
 use lib.ListN.{length}
-use borrow.Author.Rules.{rules}
 use Rattle.deployment.specs.Values.{numbers_of}
-use Rattle.deployment.proofs.Records.{numbers_length}
 use Rattle.ordering.specs.Fronts.{stands, front}
-use Rattle.ordering.proofs.Support.{front_fits, front_one, front_ends}
 use Rattle.ordering.proofs.front_part.Given as goal
 
 abbrev pub invariant-loop-i : goal.invariant-loop-i

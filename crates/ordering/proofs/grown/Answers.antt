@@ -1,6 +1,5 @@
 -- `grown` meets its contract: what is required in each of the two cases is what it goes by. Assumes nothing.
 use native.Mathlib.Omega.{arith}
-use borrow.Author.Rules.{rules}
 use Rattle.deployment.specs.Values.{numbers_of}
 use Rattle.deployment.proofs.Records.{numbers_length}
 use Rattle.ordering.specs.Fronts.{stands}

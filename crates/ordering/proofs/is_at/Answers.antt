@@ -1,7 +1,6 @@
 -- `is_at` is the test of the policy's rule at an index: no rule there, or one to compare. Assumes nothing.
 use mathlib.Core.Path.{sym, ◌∙◌, ap}
 use lib.Dec.{eqb}
-use borrow.Author.Rules.{rules}
 use Rattle.deployment.specs.Values.{numbers_of}
 use Rattle.ordering.proofs.Support.{passes_past, passes_inside}
 use Rattle.ordering.proofs.is_at.Goals as goal

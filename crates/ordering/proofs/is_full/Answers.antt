@@ -2,7 +2,6 @@
 use mathlib.Core.Path.{sym, ◌∙◌, ap₂}
 use lib.Dec.{eqb}
 use lib.ListN.{length}
-use borrow.Author.Rules.{rules}
 use borrow.Author.Tests.{eq-eqb, ne_eqb}
 use Rattle.deployment.specs.Values.{numbers_of}
 use Rattle.policy.proofs.Tests.{or_left}

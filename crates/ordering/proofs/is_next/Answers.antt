@@ -1,6 +1,5 @@
 -- `is_next` is the two tests one after the other. Assumes nothing.
 use mathlib.Core.Path.{sym, ◌∙◌}
-use borrow.Author.Rules.{rules}
 use Rattle.deployment.specs.Values.{numbers_of}
 use Rattle.policy.proofs.Tests.{or_left}
 use Rattle.ordering.specs.Fronts.{is_at}

@@ -1,16 +1,13 @@
 -- `is_ordered` meets its contract: a and b are the front parts by the first k rules, and the rules from index k on say what all say.
 -- Assumes nothing.
-use Prim.Native.Nat.{◌≤◌, ◌-◌}
 use native.Mathlib.Omega.{arith}
 use mathlib.Core.Path.{◌≡◌, refl, sym, ◌∙◌, ap₂}
 use mathlib.Core.Bool.{Bool, true, ◌||◌}
-use lib.ListN.{length, drop, get_or}
-use borrow.Author.Rules.{rules}
-use Rattle.policy.specs.Lists.{all}
+use lib.ListN.{get_or}
 use Rattle.policy.specs.Judge.{supported, ordered}
 use Rattle.policy.proofs.Tests.{or_left, or_right}
 use Rattle.deployment.specs.Values.{numbers_of}
-use Rattle.ordering.specs.Fronts.{stands, front, is_at}
+use Rattle.ordering.specs.Fronts.{is_at}
 use Rattle.ordering.proofs.Support.{front_start, supported_fronts}
 use Rattle.ordering.proofs.Growth.{front_after}
 use Rattle.ordering.proofs.Search.{all_one, all_not, all_none}
@@ -66,7 +63,7 @@ loop-k-preserved c =
     let test = supported (numbers_of a.initial.now) (numbers_of a.target.now) a.list.now in
     let one : (c.is_at-by_initial.result || c.is_at-by_target.result) ≡ true =
     elim c.else-not-by_initial.branch [
-        else-not-by_initial-via-then-not-by_initial+else-not-by_target w ↦ or_right c.is_at-by_initial.result w.if-not-by_target.false
+      | else-not-by_initial-via-then-not-by_initial+else-not-by_target w ↦ or_right c.is_at-by_initial.result w.if-not-by_target.false
       | else-not-by_initial-via-else-not-by_initial w ↦ or_left c.is_at-by_target.result w.if-not-by_initial.false
     ] in (
       omega arith,

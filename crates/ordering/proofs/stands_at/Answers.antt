@@ -3,7 +3,6 @@ use Prim.Native.Nat.{◌<◌}
 use mathlib.Core.Path.{sym, ◌∙◌, ap}
 use lib.ListN.{length, get_or}
 use lib.Dec.{leb}
-use borrow.Author.Rules.{rules}
 use Rattle.deployment.specs.Values.{numbers_of}
 use Rattle.ordering.specs.Fronts.{stands}
 use Rattle.ordering.proofs.Support.{passes_past, stands_nowhere, stands_somewhere}

@@ -1,6 +1,6 @@
 -- `apart` meets its contract. The loop's invariant: the first k rules differ from all before them, and the table has their marks. Assumes
 -- nothing.
-use Prim.Native.Nat.{ℕ, suc, ◌+◌, ◌*◌, ◌-◌, ◌/◌, ◌%◌, ◌≤◌, ◌<◌}
+use Prim.Native.Nat.{ℕ, suc, ◌+◌, ◌*◌, ◌/◌, ◌%◌, ◌≤◌, ◌<◌}
 use native.Mathlib.Omega.{arith}
 use mathlib.Core.Path.{◌≡◌, sym, ◌∙◌, ap, subst}
 use mathlib.Core.Bool.{false}
@@ -11,7 +11,7 @@ use Rattle.deployment.specs.Catalogue.{record_count, catalogue_of}
 use Rattle.deployment.specs.Properties.{AreBytes}
 use Rattle.deployment.proofs.Bytes.{elements_are_bytes}
 use Rattle.deployment.proofs.Records.{record_at, record_there, record_whole}
-use Rattle.catalogue.specs.RuleMarks.{mark, may_hold, with_tag, Apart}
+use Rattle.catalogue.specs.RuleMarks.{mark, may_hold, with_tag}
 use Rattle.catalogue.proofs.Rules.{records_fit, first_fits}
 use Rattle.catalogue.proofs.Marking.{
   mark_at,

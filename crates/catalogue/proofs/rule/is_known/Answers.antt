@@ -1,13 +1,11 @@
 -- `is_known` meets its contract: the rules from the k-th on say what the first `count` of them say. Assumes nothing.
-use Prim.Native.Nat.{ℕ, ◌+◌, ◌*◌, ◌≤◌, ◌<◌, ◌-◌}
+use Prim.Native.Nat.{◌+◌, ◌*◌, ◌≤◌, ◌<◌}
 use native.Mathlib.Omega.{arith}
 use mathlib.Core.Path.{◌≡◌, refl, sym, ◌∙◌, ap}
-use mathlib.Core.List.{List, []}
-use lib.ListN.{length, take, drop, get_or}
-use borrow.Author.Rules.{rules}
-use Rattle.policy.specs.Rule.{Rule}
-use Rattle.deployment.specs.Values.{rule_of, same_rule, known}
-use Rattle.deployment.specs.Catalogue.{record_count, catalogue_of}
+use mathlib.Core.List.{[]}
+use lib.ListN.{length, drop, get_or}
+use Rattle.deployment.specs.Values.{rule_of, same_rule}
+use Rattle.deployment.specs.Catalogue.{record_count}
 use Rattle.deployment.proofs.Records.{record_at, record_there, record_whole}
 use Rattle.catalogue.proofs.Rules.{known_here, known_later, known_nowhere, records_fit, first_count, first_at}
 use Rattle.catalogue.proofs.rule.is_known.Goals as goal

@@ -1,14 +1,11 @@
-use Prim.Native.Nat.{ℕ, ◌+◌, ◌*◌, ◌≤◌, ◌<◌, ◌-◌}
-use native.Mathlib.Omega.{arith}
-use mathlib.Core.Path.{◌≡◌, refl, sym, ◌∙◌, ap}
-use mathlib.Core.List.{List, []}
-use lib.ListN.{length, take, drop, get_or}
+use Prim.Native.Nat.{ℕ, ◌≤◌, ◌-◌}
+use mathlib.Core.Path.{◌≡◌}
+use mathlib.Core.List.{List}
+use lib.ListN.{take, drop}
 use borrow.Author.Rules.{rules}
 use Rattle.policy.specs.Rule.{Rule}
-use Rattle.deployment.specs.Values.{rule_of, same_rule, known}
-use Rattle.deployment.specs.Catalogue.{record_count, catalogue_of}
-use Rattle.deployment.proofs.Records.{record_at, record_there, record_whole}
-use Rattle.catalogue.proofs.Rules.{known_here, known_later, known_nowhere, records_fit, first_count, first_at}
+use Rattle.deployment.specs.Values.{rule_of, known}
+use Rattle.deployment.specs.Catalogue.{catalogue_of}
 use Rattle.catalogue.proofs.rule.is_known.Given as goal
 
 -- the rules that are compared

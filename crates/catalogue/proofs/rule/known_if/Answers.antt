@@ -1,5 +1,4 @@
 -- `known_if` meets its contract: a rule that isn't suspect isn't compared. Assumes nothing.
-use borrow.Author.Rules.{rules}
 use Rattle.catalogue.proofs.rule.known_if.Goals as goal
 
 pub is_known-requires : goal.is_known-requires

@@ -1,11 +1,9 @@
 -- `mark_of` meets its contract: what is mixed so far, with the bytes from k on, gives what all of them give. Assumes nothing.
-use Prim.Native.Nat.{◌<◌, ◌-◌}
 use native.Mathlib.Omega.{arith}
-use mathlib.Core.Path.{◌≡◌, sym, ◌∙◌, ap}
-use lib.ListN.{length, drop}
-use borrow.Author.Rules.{rules}
+use mathlib.Core.Path.{sym, ◌∙◌, ap}
+use lib.ListN.{drop}
 use Rattle.catalogue.specs.RuleMarks.{mixed_from}
-use Rattle.catalogue.proofs.Marking.{first, first_small, mixed_further, mark_is}
+use Rattle.catalogue.proofs.Marking.{first_small, mixed_further, mark_is}
 use Rattle.catalogue.proofs.rule.mark_of.Goals as goal
 
 pub loop-k-init : goal.loop-k-init

@@ -1,10 +1,8 @@
 use Prim.Native.Nat.{◌<◌, ◌-◌}
-use native.Mathlib.Omega.{arith}
-use mathlib.Core.Path.{◌≡◌, sym, ◌∙◌, ap}
+use mathlib.Core.Path.{◌≡◌}
 use lib.ListN.{length, drop}
-use borrow.Author.Rules.{rules}
 use Rattle.catalogue.specs.RuleMarks.{mixed_from}
-use Rattle.catalogue.proofs.Marking.{first, first_small, mixed_further, mark_is}
+use Rattle.catalogue.proofs.Marking.{first}
 use Rattle.catalogue.proofs.rule.mark_of.Given as goal
 
 abbrev pub invariant-loop-k : goal.invariant-loop-k

@@ -1,6 +1,5 @@
 -- `records` meets its contract: the smaller of the two numbers. Assumes nothing.
 use native.Mathlib.Omega.{arith}
-use borrow.Author.Rules.{rules}
 use Rattle.deployment.specs.Catalogue.{record_count}
 use Rattle.catalogue.proofs.rule.records.Goals as goal
 

@@ -5,7 +5,6 @@ use mathlib.Core.Path.{◌∙◌, ap₂}
 use lib.Dec.{leb}
 use Rattle.deployment.specs.Values.{range_at, rising}
 use Rattle.deployment.proofs.Records.{number_there}
-use borrow.Author.Rules.{rules}
 use Rattle.catalogue.proofs.rule.rises_four.Goals as goal
 
 pub returns : goal.returns

@@ -9,7 +9,6 @@ use Rattle.deployment.specs.Bytes.{number, part}
 use Rattle.deployment.specs.Values.{range_at, rising, rule_fits}
 use Rattle.deployment.proofs.Records.{first_byte}
 use Rattle.catalogue.proofs.Rules.{rising_protocol}
-use borrow.Author.Rules.{rules}
 use Rattle.catalogue.proofs.rule.rule_fits.Goals as goal
 use Rattle.catalogue.proofs.rule.rule_fits.Goals.{Joined-rises_four, Joined-rises_two, Joined-rule, Joined-rule-le1}
 use Rattle.catalogue.proofs.rule.rule_fits.Goals.{then-rule-le1, else-rule-le1, then-rule, else-rule, then-rises_four, else-rises_four, then-rises_two, else-rises_two}
@@ -22,7 +21,7 @@ first_two c =
     let rule = c.args.rule.now in
     rw (first_byte rule (omega arith), rising_protocol rule (omega arith))
     (elim c.if-rule-le1.branch [
-        then-rule-le1 w ↦ rw (le-leb (get_or rule 0 0) 1 w.if-rule-le1.true) w.value-is
+      | then-rule-le1 w ↦ rw (le-leb (get_or rule 0 0) 1 w.if-rule-le1.true) w.value-is
       | else-rule-le1 w ↦ rw (lt-leb (get_or rule 0 0) 1 w.if-rule-le1.false) (w.value-is ∙ lt-leb (get_or rule 0 0) 1 w.if-rule-le1.false)
     ])
 
@@ -32,7 +31,7 @@ first_three : (c : Joined-rule)
 first_three c =
     rw (← first_two (goal.at.Joined-rule c).Joined-rule-le1)
     (elim c.if-rule.branch [
-        then-rule w ↦ rw w.if-rule.true (w.value-is ∙ w.rises_four.ensures)
+      | then-rule w ↦ rw w.if-rule.true (w.value-is ∙ w.rises_four.ensures)
       | else-rule w ↦ rw w.if-rule.false (w.value-is ∙ w.if-rule.false)
     ])
 
@@ -43,7 +42,7 @@ first_four : (c : Joined-rises_four)
 first_four c =
     rw (← first_three (goal.at.Joined-rises_four c).Joined-rule)
     (elim c.if-rises_four.branch [
-        then-rises_four w ↦ rw w.if-rises_four.true (w.value-is ∙ w.rises_two.ensures)
+      | then-rises_four w ↦ rw w.if-rises_four.true (w.value-is ∙ w.rises_two.ensures)
       | else-rises_four w ↦ rw w.if-rises_four.false (w.value-is ∙ w.if-rises_four.false)
     ])
 
@@ -55,7 +54,7 @@ first_five : (c : Joined-rises_two)
 first_five c =
     rw (← first_four (goal.at.Joined-rises_two c).Joined-rises_four)
     (elim c.if-rises_two.branch [
-        then-rises_two w ↦ rw w.if-rises_two.true (w.value-is ∙ w.rises_four-then-rises_two.ensures)
+      | then-rises_two w ↦ rw w.if-rises_two.true (w.value-is ∙ w.rises_four-then-rises_two.ensures)
       | else-rises_two w ↦ rw w.if-rises_two.false (w.value-is ∙ w.if-rises_two.false)
     ])
 

@@ -1,17 +1,13 @@
 -- `rule_tested` meets its contract: its tests are those of the definition, one after another; the rules that it compares with are
 -- the first `count`, or all where there are fewer. Assumes nothing.
-use Prim.Native.Nat.{ℕ, ◌≤◌, min}
-use native.Mathlib.Nat.{min-eq_left, min-eq_right}
 use native.Mathlib.Omega.{arith}
 use mathlib.Core.Path.{◌≡◌, sym, ◌∙◌, ap}
 use mathlib.Core.Bool.{◌&&◌}
 use lib.Dec.{leb}
 use lib.ListN.{take}
 use borrow.Author.Tests.{eq-eqb, ne_eqb}
-use borrow.Author.Rules.{rules}
-use Rattle.policy.proofs.Tests.{fails, passes}
 use Rattle.deployment.specs.Values.{rule_of, known}
-use Rattle.deployment.specs.Catalogue.{record_count, catalogue_of}
+use Rattle.deployment.specs.Catalogue.{catalogue_of}
 use Rattle.deployment.specs.Contents.{rule_read}
 use Rattle.catalogue.specs.Answers.{checking, rule_value, compared_with}
 use Rattle.catalogue.proofs.Rules.{first_records}

@@ -1,10 +1,7 @@
 -- `same_bytes` meets its contract: the parts are as long as each other, and the rests from k on say what the whole parts say.
 -- Assumes nothing.
-use Prim.Native.Nat.{◌≤◌, ◌-◌}
 use native.Mathlib.Omega.{arith}
-use mathlib.Core.Path.{◌≡◌, refl, sym, ◌∙◌}
-use lib.ListN.{length, drop}
-use Rattle.policy.specs.Lists.{same}
+use mathlib.Core.Path.{refl, sym, ◌∙◌}
 use Rattle.catalogue.proofs.SideBySide.{same_lengths, same_further, same_not, same_ends}
 use Rattle.catalogue.proofs.rule.same_bytes.Goals as goal
 

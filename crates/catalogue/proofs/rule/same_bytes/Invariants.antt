@@ -1,9 +1,7 @@
 use Prim.Native.Nat.{◌≤◌, ◌-◌}
-use native.Mathlib.Omega.{arith}
-use mathlib.Core.Path.{◌≡◌, refl, sym, ◌∙◌}
+use mathlib.Core.Path.{◌≡◌}
 use lib.ListN.{length, drop}
 use Rattle.policy.specs.Lists.{same}
-use Rattle.catalogue.proofs.SideBySide.{same_lengths, same_further, same_not, same_ends}
 use Rattle.catalogue.proofs.rule.same_bytes.Given as goal
 
 abbrev pub invariant-loop-k : goal.invariant-loop-k

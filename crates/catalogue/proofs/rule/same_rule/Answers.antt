@@ -12,7 +12,6 @@ use Rattle.deployment.specs.Values.{rule_of, same_rule}
 use Rattle.deployment.proofs.Bytes.{elements_are_bytes}
 use Rattle.deployment.proofs.Records.{part_to_end}
 use Rattle.catalogue.proofs.Rules.{same_rule_bytes}
-use borrow.Author.Rules.{rules}
 use Rattle.catalogue.proofs.rule.same_rule.Goals as goal
 
 -- the test of the actions, and what is compared of the rules
