@@ -37,7 +37,7 @@ returns-in-Failed c =
     c.step-s.ensures _ c.in-Failed.is in
     c.stop-in-Failed.ensures
     ∙ ap outcome_of (sym (run_breaks c.args.script.now c.requires.1 c.args.size c.loop-k.k l c.loop-k.invariant.1 _
-    (inside (goal.at.returns-in-Failed c).In-loop-k) (c.in-Is.ensures tt) _ fails))
+    (inside (goal.at.returns-in-Failed c).In-loop-k) c.in-Is.ensures _ fails))
 
 pub loop-k-preserved : goal.loop-k-preserved
 loop-k-preserved c =
@@ -48,7 +48,7 @@ loop-k-preserved c =
     stepped.ensures passed in (
       step_sound c.args.size l c.loop-k.state.places.of c.loop-k.invariant.0 _ stepped.result stepped.ensures passed,
       run_on c.args.script.now c.requires.1 c.args.size c.loop-k.k l c.loop-k.invariant.1 _
-          (inside (goal.at.loop-k-preserved c).In-loop-k) (c.in-Is.ensures tt) _ passes,
+          (inside (goal.at.loop-k-preserved c).In-loop-k) c.in-Is.ensures _ passes,
     )
 
 pub returns : goal.returns

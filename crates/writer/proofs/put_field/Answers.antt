@@ -15,7 +15,7 @@ pub bounds-place-at-3 : goal.bounds-place-at-3
 bounds-place-at-3 c = simp length-set (omega arith)
 
 pub shape_of-place : goal.shape_of-place
-shape_of-place c = c.store.auto.0 ∙ simp length-set
+shape_of-place c = c.store.auto.place ∙ simp length-set
 
 pub returns : goal.returns
 returns c =

@@ -1,7 +1,6 @@
 -- `values_checked` meets its contract: each value is tested behind those that passed, and the first that is turned away decides.
 -- Assumes nothing.
 use mathlib.Core.Path.{◌≡◌, sym, ◌∙◌}
-use borrow.Author.Rules.{rules}
 use Rattle.deployment.specs.FieldValues.{FieldValues, default_value}
 use Rattle.catalogue.specs.Answers.{checking}
 use Rattle.values.specs.Answers.{values_given}
