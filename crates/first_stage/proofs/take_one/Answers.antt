@@ -4,7 +4,6 @@ use Prim.Native.Nat.{◌≤◌, ◌<◌}
 use native.Mathlib.Omega.{arith}
 use mathlib.Core.Path.{◌≡◌, refl, sym, ◌∙◌}
 use borrow.Author.Rules.{rules}
-use borrow.Author.Tests.{not-true, not-false}
 use lib.ListN.{length}
 use lib.Dec.{eqb}
 use Rattle.running.specs.Running.{view}
@@ -22,7 +21,7 @@ returns-then-not-old c =
     let gives =
     ins_gives c.ins-edited.result (view stage.list) _ a.r c.ins-edited.ensures pre.2 (omega arith) (omega (arith, pre.0)) pre.1 in
     λ h st kept. did_insert stage h st a.r a.field.now pre.4 pre.3 pre.2 a.old a.keep c.joined_by.result _
-    c.ins-edited.result.list (not-true a.old c.if-not-old.true-raw) gives c.joined_by.ensures.0 c.joined_by.ensures.1
+    c.ins-edited.result.list c.if-not-old.true gives c.joined_by.ensures.0 c.joined_by.ensures.1
 
 -- the rule is found inside the list, or at its end
 seek_fits : (c : After-seek-at) → c.seek-at.result ≤ length (view c.args.stage.list)
@@ -47,7 +46,7 @@ returns-then-keep c =
     let a = c.args in
     let pre = c.requires in
     λ h st kept. did_reach a.stage h st a.r a.field.now pre.4 pre.3 pre.2 a.old a.keep c.joined.result _
-    (not-false a.old c.if-not-old.false-raw) c.seek-at.result c.seek-at.ensures
+    c.if-not-old.false c.seek-at.result c.seek-at.ensures
     c.if-keep.true (kept c.if-keep.true) c.joined.ensures refl
 
 pub returns-then-at-count : goal.returns-then-at-count
@@ -55,7 +54,7 @@ returns-then-at-count c =
     let a = c.args in
     let pre = c.requires in
     λ h st kept. did_pass a.stage h st a.r a.field.now pre.4 pre.3 pre.2 a.old a.keep a.stage _
-    (not-false a.old c.if-not-old.false-raw) c.seek-at.result c.seek-at.ensures
+    c.if-not-old.false c.seek-at.result c.seek-at.ensures
     c.if-keep.false (c.if-at-count.true ∙ c.count.ensures) refl refl
 
 pub returns-then-at-front : goal.returns-then-at-front
@@ -63,7 +62,7 @@ returns-then-at-front c =
     let a = c.args in
     let pre = c.requires in
     λ h st kept. did_stay a.stage h st a.r a.field.now pre.4 pre.3 pre.2 a.old a.keep c.joined-then-at-front.result _
-    (not-false a.old c.if-not-old.false-raw) c.seek-at.result c.seek-at.ensures
+    c.if-not-old.false c.seek-at.result c.seek-at.ensures
     c.if-keep.false (λ e. c.if-at-count.false (e ∙ sym c.count.ensures)) c.if-at-front.true c.joined-then-at-front.ensures refl
 
 pub overflow_add-place : goal.overflow_add-place
@@ -79,6 +78,6 @@ returns c =
     let gives =
     mov_gives c.mov-edited.result (view a.stage.list) _ _ c.mov-edited.ensures (omega arith) (omega (arith, inside (goal.at.returns c).Else-at-count)) (omega arith) (omega (arith, inside (goal.at.returns c).Else-at-count)) in
     λ h st kept. did_move a.stage h st a.r a.field.now pre.4 pre.3 pre.2 a.old a.keep c.joined_by-2.result _
-    (not-false a.old c.if-not-old.false-raw) c.seek-at.result c.seek-at.ensures
+    c.if-not-old.false c.seek-at.result c.seek-at.ensures
     c.if-keep.false (λ e. c.if-at-count.false (e ∙ sym c.count.ensures)) c.mov-edited.result.list c.if-at-front.false
     gives c.joined_by-2.ensures.0 c.joined_by-2.ensures.1
