@@ -8,10 +8,7 @@ use mathlib.Core.Logic.{inl, inr}
 use mathlib.Core.List.{List}
 use lib.ListN.{length, take, set, get_or, length-set}
 use lib.Seq.{sets}
-use borrow.Author.Tests.{ltb-true, ltb-false}
 use Rattle.deployment.proofs.Storing.{copied_more, copied_all}
-use Rattle.told.proofs.store.Reads as reads
-use Rattle.told.proofs.store.Lts as lts
 use Rattle.told.proofs.store.Goals as goal
 
 -- one value more, from the first word on
@@ -32,9 +29,7 @@ pub offset_bounds-answer-k : goal.offset_bounds-answer-k
 offset_bounds-answer-k c = omega arith
 
 pub bounds-answer-k : goal.bounds-answer-k
-bounds-answer-k c =
-    let at-loop = c.loop-k in
-    omega (arith, at-loop.invariant.2, ltb-true at-loop.k (length at-loop.answer) c.if-k-answer.true-raw)
+bounds-answer-k c = omega arith
 
 pub overflow_add-k : goal.overflow_add-k
 overflow_add-k c = omega arith
@@ -60,7 +55,7 @@ returns-else-k-answer c =
     let at-loop = c.loop-k in
     let args = c.args in
     at-loop.invariant.1
-    ∙ copied_all args.answer.now 0 args.values.now at-loop.k at-loop.invariant.0 (inr (omega (arith, at-loop.invariant.2, ltb-false at-loop.k (length at-loop.answer) c.if-k-answer.false-raw)))
+    ∙ copied_all args.answer.now 0 args.values.now at-loop.k at-loop.invariant.0 (inr (omega arith))
 
 pub shape_of-answer-after-loop-k : goal.shape_of-answer-after-loop-k
 shape_of-answer-after-loop-k c = c.loop-k.invariant.2
