@@ -1,7 +1,6 @@
 -- `most_second` meets its contract: 65,535, and one more for the second number of B's move. Assumes nothing.
 use borrow.Author.Tests.{eq-eqb, ne_eqb}
 use Rattle.console_text.specs.Reading.{most_second}
-use borrow.Author.Rules.{rules}
 use Rattle.console_reader.proofs.most_second.Goals as goal
 
 pub returns-in-A : goal.returns-in-A

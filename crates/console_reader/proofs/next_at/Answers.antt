@@ -6,7 +6,6 @@ use mathlib.Core.Path.{sym, ◌∙◌}
 use mathlib.Core.Logic.{inl, inr}
 use mathlib.Core.List.{List}
 use lib.ListN.{drop}
-use borrow.Author.Rules.{rules}
 use Rattle.console_text.specs.Reading.{most_number, most_second}
 use Rattle.console_reader.proofs.OneLine.{no_line, LineAt, line_at, line_beyond, heard_fits, line_read_lem, line_wrong}
 use Rattle.console_reader.proofs.next_at.Goals as goal

@@ -1,17 +1,16 @@
 -- `put_commands` meets its contract. The invariant: the commands of the lines before the position stand in the place, and the whole text is read
 -- as they are in front of what the rest is read as. The measure is what is left of the text: a line that is read has a byte at least.
 -- Assumes nothing.
-use Prim.Native.Nat.{ℕ, ◌-◌}
+use Prim.Native.Nat.{ℕ}
 use native.Mathlib.Omega.{arith}
 use mathlib.Core.Path.{◌≡◌, ◌∙◌, ap}
 use mathlib.Core.List.{List}
 use lib.ListN.{length, drop}
 use lib.Seq.{length-sets}
-use borrow.Author.Rules.{rules}
 use Rattle.policy.specs.declared.Command.{Command}
 use Rattle.plans.specs.Sending.{records}
 use Rattle.console_reader.proofs.Gathering.{CommandAt, command_at_lem}
-use Rattle.console_reader.proofs.Gathering.{Gathered, gathered_none, gathered_more, further, gathered_all, gathered_turned, gathered_full}
+use Rattle.console_reader.proofs.Gathering.{gathered_none, gathered_more, further, gathered_all, gathered_turned, gathered_full}
 use Rattle.console_reader.proofs.put_commands.Goals as goal
 use Rattle.console_reader.proofs.put_commands.Goals.{At-loop-at, In-Is}
 

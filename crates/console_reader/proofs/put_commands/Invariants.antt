@@ -1,14 +1,6 @@
-use Prim.Native.Nat.{ℕ, ◌-◌}
-use native.Mathlib.Omega.{arith}
-use mathlib.Core.Path.{◌≡◌, ◌∙◌, ap}
-use mathlib.Core.List.{List}
-use lib.ListN.{length, drop}
-use lib.Seq.{length-sets}
-use borrow.Author.Rules.{rules}
-use Rattle.policy.specs.declared.Command.{Command}
-use Rattle.plans.specs.Sending.{records}
-use Rattle.console_reader.proofs.Gathering.{CommandAt, command_at_lem}
-use Rattle.console_reader.proofs.Gathering.{Gathered, gathered_none, gathered_more, further, gathered_all, gathered_turned, gathered_full}
+use Prim.Native.Nat.{◌-◌}
+use lib.ListN.{length}
+use Rattle.console_reader.proofs.Gathering.{Gathered}
 use Rattle.console_reader.proofs.put_commands.Given as goal
 
 abbrev pub invariant-loop-at : goal.invariant-loop-at

@@ -1,5 +1,4 @@
 -- `put_field` meets its contract: the records of all lines are put, then the head, and both are the field. Assumes nothing.
-use borrow.Author.Rules.{rules}
 use Rattle.policy.specs.Policy.{most_commands}
 use Rattle.console_text.specs.Reading.{Understood, read_from}
 use Rattle.console_reader.proofs.ScriptField.{field_small, field_written}

@@ -1,7 +1,6 @@
 -- `second_of` meets its contract: the maker's own number where the code is that of a move, and else the number as it is. Assumes nothing.
 use borrow.Author.Tests.{eq-eqb, ne_eqb}
 use Rattle.console_text.specs.Reading.{heard_coded}
-use borrow.Author.Rules.{rules}
 use Rattle.console_reader.proofs.second_of.Goals as goal
 
 pub returns-then-code-eq-MOV : goal.returns-then-code-eq-MOV

@@ -1,7 +1,6 @@
 -- `text_script` meets its contract: by the type, then by what the first pass tells, which puts nothing anywhere. Assumes nothing.
 use mathlib.Core.Path.{◌≡◌, sym, ◌∙◌}
 use mathlib.Core.Bool.{true}
-use borrow.Author.Rules.{rules}
 use Rattle.policy.specs.Policy.{most_commands}
 use Rattle.policy.specs.Command.{is_type}
 use Rattle.console_text.specs.Reading.{Understood, read_from}

@@ -1,10 +1,7 @@
 -- `digits_from` meets its contract. The loop's invariant: the digits up to `end` are counted in, and of the number that they make `value` is held.
 -- The measure is how many bytes are left. Assumes nothing.
-use Prim.Native.Nat.{◌-◌}
 use mathlib.Core.Path.{sym, ◌∙◌}
-use lib.ListN.{length}
-use Rattle.numerals.proofs.Counting.{Counts, counts_none, counts_more, counted_to_end, counted_to_other, counts_bound}
-use borrow.Author.Rules.{rules}
+use Rattle.numerals.proofs.Counting.{counts_none, counts_more, counted_to_end, counted_to_other, counts_bound}
 use Rattle.numerals.proofs.digits_from.Goals as goal
 
 pub loop-end-init : goal.loop-end-init

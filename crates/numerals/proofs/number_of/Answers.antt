@@ -2,7 +2,6 @@
 use lib.ListN.{drop}
 use Rattle.numerals.specs.Numerals.{numeral_read}
 use Rattle.numerals.proofs.Numbers.{Stands, found_is, not_first, bytes_left, whole_word}
-use borrow.Author.Rules.{rules}
 use Rattle.numerals.proofs.number_of.Goals as goal
 use Rattle.numerals.proofs.number_of.Goals.{In-Is}
 

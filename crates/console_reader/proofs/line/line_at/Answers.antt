@@ -11,7 +11,6 @@ use Rattle.numerals.specs.Numerals.{numeral_read}
 use Rattle.numerals.proofs.Numbers.{Stands, found_is}
 use Rattle.console_text.specs.Reading.{starts, second_read}
 use Rattle.console_reader.specs.Found.{if_good}
-use Rattle.console_reader.proofs.Standing.{fits}
 use Rattle.console_reader.proofs.Lines.{not_named, name_fits, no_first, no_second, not_ended, line_found}
 use borrow.Author.Rules.{rules}
 use Rattle.console_reader.proofs.line.line_at.Goals as goal
@@ -86,6 +85,3 @@ slice_bounds-stands-end c = sym (length-take-le _ _ c.phrase_of-phrase.ensures.n
 
 pub overflow_add-at : goal.overflow_add-at
 overflow_add-at c = let inside = room c in search rules
-
--- OLD add-t19 : tie.Need-overflow-add-t19
--- OLD add-t19 c = let inside = fits (10 ∷ []) _ _ (second (two c.before)).inside (ended c) in search rules

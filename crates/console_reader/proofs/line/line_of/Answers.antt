@@ -1,13 +1,9 @@
 -- `line_of` meets its contract. The loop's invariant: the line is what the codes from `code` on are read as, and no code above 6 is reached. The
 -- measure is how many codes are left. Assumes nothing.
-use Prim.Native.Nat.{◌-◌, ◌≤◌}
 use native.Mathlib.Omega.{arith}
 use mathlib.Core.Path.{◌≡◌, sym, ◌∙◌}
 use lib.ListN.{drop}
-use Rattle.policy.specs.Command.{codes_of}
-use Rattle.console_text.specs.Reading.{any_read}
-use Rattle.console_reader.proofs.Codes.{read_from, all_codes, no_code_left, other_type, no_line, line_met}
-use borrow.Author.Rules.{rules}
+use Rattle.console_reader.proofs.Codes.{all_codes, no_code_left, other_type, no_line, line_met}
 use Rattle.console_reader.proofs.line.line_of.Goals as goal
 use Rattle.console_reader.proofs.line.line_of.Goals.{then-allows+in_default, else-allows}
 

@@ -1,12 +1,9 @@
 use Prim.Native.Nat.{◌-◌, ◌≤◌}
-use native.Mathlib.Omega.{arith}
-use mathlib.Core.Path.{◌≡◌, sym, ◌∙◌}
-use mathlib.Core.Logic.{⊎_elim}
+use mathlib.Core.Path.{◌≡◌}
 use lib.ListN.{drop}
 use Rattle.policy.specs.Command.{codes_of}
 use Rattle.console_text.specs.Reading.{any_read}
-use Rattle.console_reader.proofs.Codes.{read_from, all_codes, no_code_left, other_type, no_line, line_met}
-use borrow.Author.Rules.{rules}
+use Rattle.console_reader.proofs.Codes.{read_from}
 use Rattle.console_reader.proofs.line.line_of.Given as goal
 
 abbrev pub invariant-loop-code : goal.invariant-loop-code

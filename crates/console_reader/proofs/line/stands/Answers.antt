@@ -1,12 +1,10 @@
 -- `stands` meets its contract. The loop's invariant: the text has room for the word, and it has the whole word from the position on exactly when it
 -- has the rest of it behind the first k bytes. The measure is how many bytes are left. Assumes nothing.
-use Prim.Native.Nat.{◌+◌, ◌-◌, ◌≤◌}
+use Prim.Native.Nat.{◌+◌}
 use native.Mathlib.Omega.{arith}
-use mathlib.Core.Path.{◌≡◌, sym, ◌∙◌}
-use lib.ListN.{length, drop}
-use Rattle.console_text.specs.Reading.{starts}
+use mathlib.Core.Path.{sym, ◌∙◌}
+use lib.ListN.{drop}
 use Rattle.console_reader.proofs.Standing.{from_start, same_byte, other_byte, word_ends, too_short}
-use borrow.Author.Rules.{rules}
 use Rattle.console_reader.proofs.line.stands.Goals as goal
 
 pub loop-k-init : goal.loop-k-init

@@ -1,10 +1,7 @@
 use Prim.Native.Nat.{◌+◌, ◌-◌, ◌≤◌}
-use native.Mathlib.Omega.{arith}
-use mathlib.Core.Path.{◌≡◌, sym, ◌∙◌}
+use mathlib.Core.Path.{◌≡◌}
 use lib.ListN.{length, drop}
 use Rattle.console_text.specs.Reading.{starts}
-use Rattle.console_reader.proofs.Standing.{from_start, same_byte, other_byte, word_ends, too_short}
-use borrow.Author.Rules.{rules}
 use Rattle.console_reader.proofs.line.stands.Given as goal
 
 abbrev pub invariant-loop-k : goal.invariant-loop-k

@@ -2,7 +2,6 @@
 use Rattle.lines.proofs.Pieces.{puts_more}
 use Rattle.lines.specs.Text.{block_text}
 use Rattle.replay.proofs.Scripts.{script_count}
-use Rattle.std.proofs.Common.{rules}
 use Rattle.lines.proofs.blocks.put_block.Goals as goal
 
 pub returns : goal.returns

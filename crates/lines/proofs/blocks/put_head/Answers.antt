@@ -1,7 +1,6 @@
 -- `put_head` meets its contract: word by word, each with its number, one behind the other. Assumes nothing.
 use Rattle.lines.specs.Text.{text, named, head_text}
 use Rattle.lines.proofs.Pieces.{puts_more}
-use Rattle.std.proofs.Common.{rules}
 use Rattle.lines.proofs.blocks.put_head.Goals as goal
 
 pub returns : goal.returns

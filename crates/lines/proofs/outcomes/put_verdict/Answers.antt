@@ -1,5 +1,5 @@
 -- `put_verdict` meets its contract: the word, the numbers and the end of the line, one behind the other. Assumes nothing.
-use Rattle.std.proofs.Common.{arith, length-take-le, rules}
+use Rattle.std.proofs.Common.{arith, length-take-le}
 use Rattle.lines.specs.Text.{text, verdict_text}
 use Rattle.lines.proofs.Lengths.{numbers_line_short}
 use Rattle.lines.proofs.Pieces.{puts_more, puts_whole}

@@ -1,5 +1,5 @@
 -- `put_why` meets its contract: the word and the number, the position and the end of the line, one behind the other. Assumes nothing.
-use Rattle.std.proofs.Common.{arith, rules}
+use Rattle.std.proofs.Common.{arith}
 use Rattle.lines.specs.Text.{text, named, refused_text}
 use Rattle.lines.proofs.Lengths.{refused_short}
 use Rattle.lines.proofs.Pieces.{puts_more, puts_whole}

@@ -1,5 +1,5 @@
 -- `values_of` meets its contract: each case is the definition's own. Assumes nothing.
-use Rattle.std.proofs.Common.{refl, arith, rules}
+use Rattle.std.proofs.Common.{refl, arith}
 use Rattle.policy.specs.Judge.{verdict_numbers}
 use Rattle.lines.proofs.outcomes.values_of.Goals as goal
 

@@ -1,5 +1,5 @@
 -- `move_phrase` meets its contract: each maker's words are those of the table. Assumes nothing.
-use Rattle.std.proofs.Common.{refl, arith, rules}
+use Rattle.std.proofs.Common.{refl, arith}
 use Rattle.lines.specs.Text.{text, move_words}
 use Rattle.lines.specs.Printing.{words_in}
 use Rattle.lines.proofs.phrases.move_phrase.Goals as goal

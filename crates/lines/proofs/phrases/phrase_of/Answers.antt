@@ -1,5 +1,5 @@
 -- `phrase_of` meets its contract: each row is that of the table. Assumes nothing.
-use Rattle.std.proofs.Common.{refl, inl, inr, ⊎_elim, arith, rules, ne_eqb}
+use Rattle.std.proofs.Common.{refl, inl, inr, ⊎_elim, arith, ne_eqb}
 use Rattle.lines.specs.Text.{text, words_of}
 use Rattle.lines.specs.Printing.{words_in}
 use Rattle.lines.proofs.phrases.phrase_of.Goals as goal

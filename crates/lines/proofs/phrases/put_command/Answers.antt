@@ -1,5 +1,5 @@
 -- `put_command` meets its contract: the name, the first number and what the phrase says of the second, one behind the other. Assumes nothing.
-use Rattle.std.proofs.Common.{sym, length-take-le, rules}
+use Rattle.std.proofs.Common.{sym, length-take-le}
 use Rattle.console.specs.Makers.{said}
 use Rattle.lines.proofs.Pieces.{puts_more}
 use Rattle.lines.proofs.Wording.{by_phrase, holds_own}

@@ -1,5 +1,5 @@
 -- `put_second` meets its contract: nothing where there is no second number, or the word and the number. Assumes nothing.
-use Rattle.std.proofs.Common.{sym, length-take-le, rules}
+use Rattle.std.proofs.Common.{sym, length-take-le}
 use Rattle.lines.proofs.Pieces.{puts_none, puts_more}
 use Rattle.lines.proofs.Wording.{no_second, a_second}
 use Rattle.lines.proofs.phrases.put_second.Goals as goal

@@ -1,8 +1,8 @@
 -- `put_numbers` meets its contract. The loop's invariant: the first k numbers stand from the start on, and with those that are left they are
 -- all. The measure is how many are left. Assumes nothing.
-use Rattle.std.proofs.Common.{◌≡◌, ◌-◌, ◌<◌, length, get_or, take, refl, arith, length-take-le, drop-cons, get_or-take, rules}
+use Rattle.std.proofs.Common.{get_or, take, refl, arith, length-take-le, drop-cons, get_or-take, rules}
 use Rattle.lines.specs.Text.{spaced, spaced_all}
-use Rattle.lines.proofs.Lines.{Lines, following, no_lines, one_line, all_lines}
+use Rattle.lines.proofs.Lines.{following, no_lines, one_line, all_lines}
 use Rattle.lines.proofs.Lengths.{take_small, all_short}
 use Rattle.lines.proofs.spaced.put_numbers.Goals as goal
 

@@ -1,7 +1,6 @@
-use Rattle.std.proofs.Common.{◌≡◌, ◌-◌, ◌<◌, length, get_or, take, refl, arith, length-take-le, drop-cons, get_or-take, rules}
-use Rattle.lines.specs.Text.{spaced, spaced_all}
-use Rattle.lines.proofs.Lines.{Lines, following, no_lines, one_line, all_lines}
-use Rattle.lines.proofs.Lengths.{take_small, all_short}
+use Rattle.std.proofs.Common.{◌≡◌, ◌-◌, length, take}
+use Rattle.lines.specs.Text.{spaced_all}
+use Rattle.lines.proofs.Lines.{Lines, following}
 use Rattle.lines.proofs.spaced.put_numbers.Given as goal
 
 abbrev pub invariant-loop-k : goal.invariant-loop-k

@@ -3,7 +3,6 @@
 use Rattle.console.proofs.Words.{said_by_a}
 use Rattle.lines.specs.Text.{text, line_text}
 use Rattle.lines.proofs.Pieces.{puts_more}
-use Rattle.std.proofs.Common.{rules}
 use Rattle.lines.proofs.steps.put_line.Goals as goal
 
 pub returns : goal.returns

@@ -1,12 +1,12 @@
 -- `put_lines` meets its contract. The loop's invariant: the lines of the first k commands stand from the start on, and with those that are
 -- left they are all lines. The measure is how many commands are left. Assumes nothing.
-use Rattle.std.proofs.Common.{◌≡◌, suc, ◌+◌, ◌-◌, ◌<◌, ◌∷◌, length, drop, sym, refl, ◌∙◌, arith, rules}
+use Rattle.std.proofs.Common.{◌≡◌, suc, ◌+◌, ◌<◌, ◌∷◌, drop, sym, refl, ◌∙◌, arith, rules}
 use Rattle.deployment.specs.Values.{script_of}
 use Rattle.deployment.specs.Commands.{command_count}
 use Rattle.replay.specs.Answers.{commands_of, Readable}
 use Rattle.replay.proofs.Scripts.{script_count, never_wrong}
 use Rattle.lines.specs.Text.{line_text, lines_text}
-use Rattle.lines.proofs.Lines.{Lines, next_command, no_lines, one_line, all_lines}
+use Rattle.lines.proofs.Lines.{next_command, no_lines, one_line, all_lines}
 use Rattle.lines.proofs.steps.put_lines.Goals as goal
 use Rattle.lines.proofs.steps.put_lines.Goals.{In-Is, In-loop-k}
 

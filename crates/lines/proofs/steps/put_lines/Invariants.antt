@@ -1,10 +1,8 @@
-use Rattle.std.proofs.Common.{◌≡◌, suc, ◌+◌, ◌-◌, ◌<◌, ◌∷◌, length, drop, sym, refl, ◌∙◌, arith, rules}
+use Rattle.std.proofs.Common.{◌≡◌, ◌-◌, length}
 use Rattle.deployment.specs.Values.{script_of}
-use Rattle.deployment.specs.Commands.{command_count}
 use Rattle.replay.specs.Answers.{commands_of, Readable}
-use Rattle.replay.proofs.Scripts.{script_count, never_wrong}
-use Rattle.lines.specs.Text.{line_text, lines_text}
-use Rattle.lines.proofs.Lines.{Lines, next_command, no_lines, one_line, all_lines}
+use Rattle.lines.specs.Text.{lines_text}
+use Rattle.lines.proofs.Lines.{Lines}
 use Rattle.lines.proofs.steps.put_lines.Given as goal
 
 abbrev pub invariant-loop-k : goal.invariant-loop-k

@@ -1,5 +1,4 @@
 -- The measure of `put_number` is the number.
-use Rattle.std.proofs.Common.{ℕ}
 use Rattle.lines.proofs.words.+put_number.Given as goal
 
 abbrev pub decreases-put_number : goal.decreases-put_number

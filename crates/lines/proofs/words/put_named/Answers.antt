@@ -1,6 +1,5 @@
 -- `put_named` meets its contract: the word, then a blank and the number. Assumes nothing.
 use Rattle.lines.proofs.Pieces.{puts_more}
-use Rattle.std.proofs.Common.{rules}
 use Rattle.lines.proofs.words.put_named.Goals as goal
 
 pub returns : goal.returns

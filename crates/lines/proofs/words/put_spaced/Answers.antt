@@ -1,7 +1,6 @@
 -- `put_spaced` meets its contract: a blank, then the number. Assumes nothing.
 use Rattle.lines.specs.Text.{text, spaced}
 use Rattle.lines.proofs.Pieces.{puts_more}
-use Rattle.std.proofs.Common.{rules}
 use Rattle.lines.proofs.words.put_spaced.Goals as goal
 
 pub returns : goal.returns
