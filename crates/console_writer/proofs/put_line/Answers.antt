@@ -2,7 +2,6 @@
 use Rattle.lines.specs.Text.{text}
 use Rattle.lines.proofs.Pieces.{puts_more}
 use Rattle.console_text.specs.Text.{line_of}
-use borrow.Author.Rules.{rules}
 use Rattle.console_writer.proofs.put_line.Goals as goal
 
 pub returns : goal.returns

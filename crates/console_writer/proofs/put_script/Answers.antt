@@ -1,19 +1,17 @@
 -- `put_script` meets its contract. The loop's invariant: the lines of the first k commands stand from the start on, and with those that are
 -- left they are the whole text. The measure is how many commands are left. Assumes nothing.
-use Prim.Native.Nat.{ℕ, suc, ◌-◌, ◌<◌}
+use Prim.Native.Nat.{ℕ, suc, ◌<◌}
 use native.Mathlib.Omega.{arith}
 use mathlib.Core.Path.{◌≡◌, refl, sym, ◌∙◌}
 use mathlib.Core.List.{List, ◌∷◌}
-use lib.ListN.{length, drop}
+use lib.ListN.{drop}
 use borrow.Author.Rules.{rules}
-use Rattle.policy.specs.declared.Command.{Command}
 use Rattle.console.specs.Makers.{said}
-use Rattle.console.specs.declared.Maker.{Maker}
 use Rattle.deployment.specs.Values.{script_of}
 use Rattle.deployment.specs.Commands.{command_count}
 use Rattle.replay.specs.Answers.{commands_of, Readable}
 use Rattle.replay.proofs.Scripts.{script_count, never_wrong}
-use Rattle.lines.proofs.Lines.{Lines, next_command, no_lines, one_line, all_lines}
+use Rattle.lines.proofs.Lines.{next_command, no_lines, one_line, all_lines}
 use Rattle.console_text.specs.Text.{line_of, lines_of, script_text}
 use Rattle.console_writer.proofs.put_script.Goals as goal
 use Rattle.console_writer.proofs.put_script.Goals.{At-loop-k, In-Is, In-loop-k}

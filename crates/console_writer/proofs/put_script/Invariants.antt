@@ -1,18 +1,13 @@
-use Prim.Native.Nat.{ℕ, suc, ◌-◌, ◌<◌}
-use native.Mathlib.Omega.{arith}
-use mathlib.Core.Path.{◌≡◌, refl, sym, ◌∙◌}
-use mathlib.Core.List.{List, ◌∷◌}
-use lib.ListN.{length, drop}
-use borrow.Author.Rules.{rules}
+use Prim.Native.Nat.{ℕ, ◌-◌}
+use mathlib.Core.Path.{◌≡◌}
+use mathlib.Core.List.{List}
+use lib.ListN.{length}
 use Rattle.policy.specs.declared.Command.{Command}
-use Rattle.console.specs.Makers.{said}
 use Rattle.console.specs.declared.Maker.{Maker}
 use Rattle.deployment.specs.Values.{script_of}
-use Rattle.deployment.specs.Commands.{command_count}
 use Rattle.replay.specs.Answers.{commands_of, Readable}
-use Rattle.replay.proofs.Scripts.{script_count, never_wrong}
-use Rattle.lines.proofs.Lines.{Lines, next_command, no_lines, one_line, all_lines}
-use Rattle.console_text.specs.Text.{line_of, lines_of, script_text}
+use Rattle.lines.proofs.Lines.{Lines}
+use Rattle.console_text.specs.Text.{script_text}
 use Rattle.console_writer.proofs.put_script.Given as goal
 
 -- the text of commands, wherever they stand: no line has a number

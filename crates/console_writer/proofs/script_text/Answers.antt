@@ -10,7 +10,6 @@ use Rattle.deployment.proofs.Bytes.{elements_are_bytes}
 use Rattle.catalogue.specs.Answers.{checking}
 use Rattle.catalogue.specs.declared.Checking.TheVariants.{Good}
 use Rattle.console_writer.proofs.Values.{value_turned, passed_fit, value_written}
-use borrow.Author.Rules.{rules}
 use Rattle.console_writer.proofs.script_text.Goals as goal
 use Rattle.console_writer.proofs.script_text.Goals.{After-script_checked-found, In-Good}
 

@@ -2,7 +2,6 @@
 use native.Mathlib.Omega.{arith}
 use mathlib.Core.Logic.{inl, inr}
 use Rattle.console_writer.proofs.Values.{fit_readable, fit_short}
-use borrow.Author.Rules.{rules}
 use Rattle.console_writer.proofs.text_needed.Goals as goal
 
 pub returns : goal.returns

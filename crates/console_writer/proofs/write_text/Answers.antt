@@ -9,7 +9,6 @@ use Rattle.lines.proofs.HandedOver.{no_room, room}
 use Rattle.console_text.specs.Text.{script_text}
 use Rattle.console_text.specs.Answers.{text_left}
 use Rattle.console_writer.proofs.Values.{fit_readable, fit_short}
-use borrow.Author.Rules.{rules}
 use Rattle.console_writer.proofs.write_text.Goals as goal
 use Rattle.console_writer.proofs.write_text.Goals.{After-text_needed-needed}
 

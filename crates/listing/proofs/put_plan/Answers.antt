@@ -4,7 +4,6 @@ use native.Mathlib.Omega.{arith}
 use lib.ListN.{length}
 use Rattle.listing.proofs.PlanTexts.{not_turned, field_inside, value_reads, block_is}
 use Rattle.deployment.specs.File.{head_bytes}
-use borrow.Author.Rules.{rules}
 use Rattle.listing.proofs.put_plan.Goals as goal
 use Rattle.listing.proofs.put_plan.Goals.{In-Done}
 

@@ -9,7 +9,6 @@ use Rattle.deployment.specs.declared.Refusal.{Refusal}
 use Rattle.deployment.specs.declared.Written.TheVariants.{Turned}
 use Rattle.listing.proofs.PlanTexts.{not_turned, value_reads}
 use Rattle.console_writer.proofs.Plans.{done_or_turned, one_refusal, counted_inside, field_text}
-use borrow.Author.Rules.{rules}
 use Rattle.console_writer.proofs.files.write_planned.Goals as goal
 use Rattle.console_writer.proofs.files.write_planned.Goals.{In-Done}
 
