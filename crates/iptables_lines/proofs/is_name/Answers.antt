@@ -1,14 +1,11 @@
 -- `is_name` meets its contract. The loop's invariant: it is a name exactly when all bytes from k on are such of names. The measure is how many bytes
 -- are left. Assumes nothing.
-use Prim.Native.Nat.{◌-◌}
 use mathlib.Core.Path.{◌≡◌, sym, ◌∙◌}
 use mathlib.Core.Bool.{false}
 use borrow.Author.Tests.{eq-eqb, ne_eqb}
-use lib.ListN.{length, drop, get_or}
-use Rattle.policy.specs.Lists.{all}
-use Rattle.iptables.specs.Words.{in_name, is_name}
+use lib.ListN.{get_or}
+use Rattle.iptables.specs.Words.{in_name}
 use Rattle.iptables_lines.proofs.Names.{in_name_lem, no_control, no_quote, no_name, name_begins, name_goes_on, name_breaks, name_ends}
-use borrow.Author.Rules.{rules}
 use Rattle.iptables_lines.proofs.is_name.Goals as goal
 use Rattle.iptables_lines.proofs.is_name.Goals.{then-name-k-le-BLANK-via-then-name-k-le-BLANK, then-name-k-le-BLANK-via-else-name-k-le-BLANK+then-name-k-eq-QUOTE}
 

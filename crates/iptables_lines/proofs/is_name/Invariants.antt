@@ -1,11 +1,8 @@
 use Prim.Native.Nat.{◌-◌}
-use mathlib.Core.Path.{◌≡◌, sym, ◌∙◌}
-use mathlib.Core.Logic.{⊎_elim}
-use lib.ListN.{length, drop, get_or}
+use mathlib.Core.Path.{◌≡◌}
+use lib.ListN.{length, drop}
 use Rattle.policy.specs.Lists.{all}
 use Rattle.iptables.specs.Words.{in_name, is_name}
-use Rattle.iptables_lines.proofs.Names.{in_name_lem, no_control, no_quote, no_name, name_begins, name_goes_on, name_breaks, name_ends}
-use borrow.Author.Rules.{rules}
 use Rattle.iptables_lines.proofs.is_name.Given as goal
 
 abbrev pub invariant-loop-k : goal.invariant-loop-k

@@ -1,7 +1,6 @@
 -- `other_chain` meets its contract: it is a chain's name, or not. Assumes nothing.
 use mathlib.Core.Path.{sym, ◌∙◌}
 use Rattle.iptables_lines.proofs.Behind.{is_passed, is_turned}
-use borrow.Author.Rules.{rules}
 use Rattle.iptables_lines.proofs.other_chain.Goals as goal
 
 pub returns-then-is_name : goal.returns-then-is_name

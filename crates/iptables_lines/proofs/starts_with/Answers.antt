@@ -1,7 +1,6 @@
 -- `starts_with` meets its contract: there is a first byte and it is this one, or there is none. Assumes nothing.
 use mathlib.Core.Path.{sym}
 use Rattle.iptables_lines.proofs.Names.{first_byte, no_byte}
-use borrow.Author.Rules.{rules}
 use Rattle.iptables_lines.proofs.starts_with.Goals as goal
 
 pub returns-then-bytes-ne0 : goal.returns-then-bytes-ne0

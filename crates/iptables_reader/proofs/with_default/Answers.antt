@@ -1,7 +1,6 @@
 -- `with_default` meets its contract: by the action, then by whether it is the first default. Assumes nothing.
 use mathlib.Core.Path.{◌≡◌, sym}
 use borrow.Author.Tests.{eq-eqb, ne_eqb}
-use borrow.Author.Rules.{rules}
 use Rattle.iptables_reader.specs.Gathering.{permitted, with_default}
 use Rattle.iptables_reader.proofs.with_default.Goals as goal
 use Rattle.iptables_reader.proofs.with_default.Goals.{Joined-action, in-Permit, in-Deny}

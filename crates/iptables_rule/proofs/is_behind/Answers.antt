@@ -4,7 +4,6 @@ use mathlib.Core.Path.{◌≡◌, refl}
 use lib.Dec.{ltb}
 use Rattle.lines.specs.Text.{text}
 use Rattle.iptables.specs.Options.{is_behind}
-use borrow.Author.Rules.{rules}
 use Rattle.iptables_rule.proofs.is_behind.Goals as goal
 
 alike : {a b c d : ℕ} → a ≡ c → b ≡ d → ltb a b ≡ ltb c d

@@ -1,7 +1,6 @@
 -- `is_option` meets its contract: name by name, the answer so far or one test more. Assumes nothing.
 use Rattle.std.proofs.Common.{arith}
 use Rattle.std.proofs.lemmas.Grind.{common_steps}
-use borrow.Author.Rules.{rules}
 use Rattle.lines.specs.Text.{text}
 use Rattle.iptables.specs.Options.{is_option}
 use Rattle.iptables_rule.proofs.is_option.Goals as goal

@@ -2,17 +2,14 @@
 use Prim.Native.Nat.{ℕ}
 use Rattle.std.proofs.Common.{arith}
 use Rattle.std.proofs.lemmas.Grind.{common_steps}
-use mathlib.Core.Path.{◌≡◌, refl, sym, ◌∙◌}
+use mathlib.Core.Path.{◌≡◌, refl}
 use mathlib.Core.Bool.{◌&&◌, ◌||◌}
-use mathlib.Core.Logic.{⊎_elim}
 use mathlib.Core.List.{List}
 use Rattle.policy.specs.Lists.{same}
 use Rattle.lines.specs.Text.{text}
 use Rattle.iptables.specs.Options.{Given, protocol_is, is_behind, module_fits}
 use Rattle.iptables_rule.specs.Found.{given_from}
 use Rattle.iptables_rule.proofs.Finding.{not_given, given_once, given_twice}
-use Rattle.iptables_rule.proofs.Joining.{or_first, or_second, and_first, and_second}
-use borrow.Author.Rules.{rules}
 use Rattle.iptables_rule.proofs.module_fits.Goals as goal
 use Rattle.iptables_rule.proofs.module_fits.Goals.{After-option-found, After-word_of-word, Joined-is_behind}
 

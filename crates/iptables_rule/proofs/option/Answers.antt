@@ -1,11 +1,11 @@
 -- `option` meets its contract. The loop's invariant: the options up to `end` are in front, and what was found is found among them. Assumes nothing.
-use Prim.Native.Nat.{ℕ, ◌+◌, ◌-◌, ◌≤◌}
+use Prim.Native.Nat.{ℕ, ◌+◌, ◌≤◌}
 use native.Mathlib.Omega.{arith}
 use mathlib.Core.List.{List}
 use lib.ListN.{length}
 use Rattle.deployment.specs.Bytes.{part}
 use Rattle.iptables_rule.proofs.Turns.{name_inside, word_inside}
-use Rattle.iptables_rule.proofs.Looking.{Looking, not_looked, place_fits, looked_to_end, looked_to_last, looked_further}
+use Rattle.iptables_rule.proofs.Looking.{not_looked, place_fits, looked_to_end, looked_to_last, looked_further}
 use borrow.Author.Rules.{rules}
 use Rattle.iptables_rule.proofs.option.Goals as goal
 use Rattle.iptables_rule.proofs.option.Goals.{After-cut-middle, After-cut-stop, At-loop-end}

@@ -1,14 +1,12 @@
 -- `options_known` meets its contract. The loop's invariant: the options from `at` on are known exactly when those from `end` on are.
 -- Assumes nothing.
-use Prim.Native.Nat.{ℕ, ◌+◌, ◌-◌, ◌≤◌}
+use Prim.Native.Nat.{ℕ, ◌+◌, ◌≤◌}
 use native.Mathlib.Omega.{arith}
-use mathlib.Core.Path.{◌≡◌, refl, sym, ◌∙◌}
-use mathlib.Core.Logic.{⊎_elim}
+use mathlib.Core.Path.{refl, sym, ◌∙◌}
 use mathlib.Core.List.{List}
 use lib.ListN.{length}
-use Rattle.policy.proofs.Tests.{fails, passes}
 use Rattle.deployment.specs.Bytes.{part}
-use Rattle.iptables_rule.proofs.Turns.{known_from, none_known, name_inside, left_unknown, word_inside, next_known, unknown}
+use Rattle.iptables_rule.proofs.Turns.{none_known, name_inside, left_unknown, word_inside, next_known, unknown}
 use borrow.Author.Rules.{rules}
 use Rattle.iptables_rule.proofs.options_known.Goals as goal
 use Rattle.iptables_rule.proofs.options_known.Goals.{After-cut-end, After-cut-middle, At-loop-end, then-middle-line-via-then-middle-line, then-middle-line-via-else-middle-line+then-not-is_option}

@@ -6,7 +6,6 @@ use Rattle.iptables.specs.Options.{protocol_is, is_behind, port_fits}
 use Rattle.iptables_rule.specs.Found.{given_from}
 use Rattle.iptables_rule.proofs.Finding.{not_given, given_first}
 use Rattle.iptables_rule.proofs.Joining.{or_first, or_second, and_first, and_second}
-use borrow.Author.Rules.{rules}
 use Rattle.iptables_rule.proofs.port_fits.Goals as goal
 use Rattle.iptables_rule.proofs.port_fits.Goals.{Else-option-eq0}
 

@@ -5,7 +5,6 @@ use borrow.Author.Tests.{eq-eqb}
 use Rattle.lines.specs.Text.{text}
 use Rattle.iptables.specs.Options.{protocol_is}
 use Rattle.iptables_rule.proofs.Finding.{not_given, given_first}
-use borrow.Author.Rules.{rules}
 use Rattle.iptables_rule.proofs.protocol_is.Goals as goal
 
 pub returns-then-found-ne0 : goal.returns-then-found-ne0

@@ -5,7 +5,6 @@ use Rattle.lines.specs.Text.{text}
 use Rattle.iptables.specs.Options.{target_given}
 use Rattle.iptables_rule.specs.Found.{target_told}
 use Rattle.iptables_rule.proofs.Finding.{given_once, no_target}
-use borrow.Author.Rules.{rules}
 use Rattle.iptables_rule.proofs.target_given.Goals as goal
 
 pub returns-then-found-ne1 : goal.returns-then-found-ne1

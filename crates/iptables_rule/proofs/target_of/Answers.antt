@@ -1,7 +1,6 @@
 -- `target_of` meets its contract: the word is one of the two targets, or none of them. Assumes nothing.
 use mathlib.Core.Path.{◌≡◌, refl, sym, ◌∙◌}
 use mathlib.Core.Bool.{false}
-use borrow.Author.Rules.{rules}
 use Rattle.policy.specs.Lists.{same}
 use Rattle.lines.specs.Text.{text}
 use Rattle.iptables.specs.Options.{target_of}

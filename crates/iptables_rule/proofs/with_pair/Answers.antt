@@ -1,5 +1,4 @@
 -- `with_pair` meets its contract: branch by branch, as the definition goes. Assumes nothing.
-use borrow.Author.Rules.{rules}
 use borrow.Author.Tests.{eq-eqb, ne_eqb}
 use mathlib.Core.Path.{refl}
 use Rattle.iptables_rule.specs.Found.{with_pair}

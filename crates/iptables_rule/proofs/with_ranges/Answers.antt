@@ -2,7 +2,6 @@
 use mathlib.Core.Path.{refl}
 use Rattle.deployment.specs.Bytes.{bytes_of}
 use Rattle.deployment.specs.Values.{range_bytes}
-use borrow.Author.Rules.{rules}
 use Rattle.iptables_rule.proofs.with_ranges.Goals as goal
 
 pub returns : goal.returns

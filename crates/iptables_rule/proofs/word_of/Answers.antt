@@ -1,5 +1,4 @@
 -- `word_of` meets its contract: the part of the line that it is. Assumes nothing.
-use borrow.Author.Rules.{rules}
 use mathlib.Core.Path.{refl}
 use Rattle.deployment.specs.Bytes.{part}
 use Rattle.iptables_rule.proofs.word_of.Goals as goal

@@ -1,10 +1,7 @@
 -- `cut` meets its contract. The loop's invariant: the piece that starts at `at` ends where the piece ends that would start at `end`.
 -- Assumes nothing.
-use Prim.Native.Nat.{◌-◌}
 use mathlib.Core.Path.{refl}
-use lib.ListN.{length}
-use borrow.Author.Rules.{rules}
-use Rattle.iptables_words.proofs.Pieces.{Ahead, goes_on_lem, ends_at_byte, ends_with_all}
+use Rattle.iptables_words.proofs.Pieces.{goes_on_lem, ends_at_byte, ends_with_all}
 use Rattle.iptables_words.proofs.cut.Goals as goal
 
 pub loop-end-init : goal.loop-end-init

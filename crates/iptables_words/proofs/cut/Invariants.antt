@@ -1,9 +1,6 @@
 use Prim.Native.Nat.{◌-◌}
-use mathlib.Core.Path.{refl}
 use lib.ListN.{length}
-use borrow.Author.Rules.{rules}
-use borrow.Author.Tests.{eqb-true, eqb-false, not-true, not-false}
-use Rattle.iptables_words.proofs.Pieces.{Ahead, goes_on_lem, ends_at_byte, ends_with_all}
+use Rattle.iptables_words.proofs.Pieces.{Ahead}
 use Rattle.iptables_words.proofs.cut.Given as goal
 
 abbrev pub invariant-loop-end : goal.invariant-loop-end

@@ -2,7 +2,6 @@
 use mathlib.Core.Path.{refl}
 use Rattle.iptables.specs.Words.{full}
 use Rattle.iptables_words.specs.Told.{range_told}
-use borrow.Author.Rules.{rules}
 use Rattle.iptables_words.proofs.full.Goals as goal
 
 pub returns-in-Protocol : goal.returns-in-Protocol

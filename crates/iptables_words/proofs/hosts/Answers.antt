@@ -1,7 +1,6 @@
 -- `hosts` meets its contract. The loop's invariant: `size` is 2 to the power of the bits from n up to k. Assumes nothing.
-use Prim.Native.Nat.{◌-◌}
 use borrow.Author.Rules.{rules}
-use Rattle.iptables_words.proofs.Addresses.{Doubled, doubled_none, doubled_again, doubled_all, doubled_fits}
+use Rattle.iptables_words.proofs.Addresses.{doubled_none, doubled_again, doubled_all, doubled_fits}
 use Rattle.iptables_words.proofs.hosts.Goals as goal
 
 pub loop-k-init : goal.loop-k-init

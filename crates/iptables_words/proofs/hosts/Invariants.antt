@@ -1,6 +1,5 @@
 use Prim.Native.Nat.{◌-◌}
-use borrow.Author.Rules.{rules}
-use Rattle.iptables_words.proofs.Addresses.{Doubled, doubled_none, doubled_again, doubled_all, doubled_fits}
+use Rattle.iptables_words.proofs.Addresses.{Doubled}
 use Rattle.iptables_words.proofs.hosts.Given as goal
 
 abbrev pub invariant-loop-k : goal.invariant-loop-k

@@ -3,7 +3,6 @@ use Prim.Native.Nat.{◌≤◌}
 use native.Mathlib.Omega.{arith}
 use mathlib.Core.Path.{◌≡◌}
 use mathlib.Core.Bool.{cond}
-use borrow.Author.Rules.{rules}
 use Rattle.iptables_reader.specs.Kept.{bytes_needed}
 use Rattle.iptables_reader.proofs.file.bytes_needed.Goals as goal
 use Rattle.iptables_reader.proofs.file.bytes_needed.Goals.{Joined-permits, then-permits, else-permits}

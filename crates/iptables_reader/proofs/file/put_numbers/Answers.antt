@@ -1,13 +1,9 @@
 -- `put_numbers` meets its contract. The loop's invariant: the first k numbers are stored behind the head, two bytes each. The measure is how many are
 -- left. Assumes nothing.
-use Prim.Native.Nat.{◌+◌, ◌*◌, ◌-◌, ◌≤◌, zero-le}
+use Prim.Native.Nat.{zero-le}
 use native.Mathlib.Omega.{arith}
 use mathlib.Core.Path.{◌∙◌}
-use borrow.Author.Rules.{rules}
-use Rattle.deployment.specs.Values.{numbers_bytes}
-use Rattle.deployment.specs.FieldValues.{Stored}
 use Rattle.deployment.proofs.Storing.{stored_long}
-use Rattle.iptables.specs.Listing.{numbers_from}
 use Rattle.iptables_reader.proofs.Filing.{numbers_none, numbers_further, policy_put}
 use Rattle.iptables_reader.proofs.file.put_numbers.Goals as goal
 

@@ -1,12 +1,7 @@
-use Prim.Native.Nat.{◌+◌, ◌*◌, ◌-◌, ◌≤◌, zero-le}
-use native.Mathlib.Omega.{arith}
-use mathlib.Core.Path.{◌∙◌}
-use borrow.Author.Rules.{rules}
+use Prim.Native.Nat.{◌+◌, ◌*◌, ◌-◌, ◌≤◌}
 use Rattle.deployment.specs.Values.{numbers_bytes}
 use Rattle.deployment.specs.FieldValues.{Stored}
-use Rattle.deployment.proofs.Storing.{stored_long}
 use Rattle.iptables.specs.Listing.{numbers_from}
-use Rattle.iptables_reader.proofs.Filing.{numbers_none, numbers_further, policy_put}
 use Rattle.iptables_reader.proofs.file.put_numbers.Given as goal
 
 abbrev pub invariant-loop-k : goal.invariant-loop-k
