@@ -1,6 +1,6 @@
 /* Pageoriole for callers in C.
  *
- * `rt staticlib pageoriole` proves the library and writes target/staticlib/libpageoriole.a for x86-64 Linux. Of the C library it needs
+ * `c/library` proves the library and writes target/staticlib/libpageoriole.a for x86-64 Linux. Of the C library it needs
  * memcpy and memset. It has no state and no heap: calls from several threads don't meet, as long as each lends places of its own.
  * docs/FORMAT.md says what files, rules, scripts and verdicts are; every number that a caller needs has a name below.
  *

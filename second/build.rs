@@ -1,4 +1,4 @@
-//! With the feature `library`: links the static library that `rt staticlib pageoriole` writes.
+//! With the feature `library`: links the static library that `c/library` writes.
 
 use std::path::Path;
 
