@@ -24,7 +24,7 @@ file c = c.args.file.now
 
 stands : (c : In-Accepted) → Holds (read_file (file c)) (file c) (layout c)
 stands c =
-    file_held (file c) (elements_are_bytes (file c) (λ i. omega (arith, c.shared_slice_known-1.given i))) c.read-found.ensures
+    file_held (file c) (elements_are_bytes (file c) (λ i. omega (arith, c.type_inv.file i))) c.read-found.ensures
     c.in-Accepted.is
 
 pub rules_of-rules-requires : goal.rules_of-rules-requires
@@ -37,5 +37,5 @@ returns-in-Refused c = turned_away _ _ _ (file_turned _ c.read-found.ensures c.i
 pub returns-in-Accepted : goal.returns-in-Accepted
 returns-in-Accepted c =
     let a = c.args in
-    decided_file (stands (goal.at.returns-in-Accepted c).In-Accepted) a.of-target c.asked-list.ensures c.rules_of-rules.ensures c.value.ensures
+    decided_file (stands (goal.at.returns-in-Accepted c).In-Accepted) a.of_target c.asked-list.ensures c.rules_of-rules.ensures c.value.ensures
     c.value-in-Accepted.ensures c.default_of.ensures a.flow c.decided.ensures

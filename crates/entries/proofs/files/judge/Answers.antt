@@ -24,7 +24,7 @@ to_judge : (c : After-value-script)
     → ToJudge (read_to_judge (file c)) (layout c).rules c.value-initial.result.now c.value-target.result.now
     (layout c).has_keep (value_at (layout c).keep (file c)) c.value-script.result.now
 to_judge c =
-    file_to_judge (file c) (layout c) (elements_are_bytes (file c) (λ i. omega (arith, c.shared_slice_known-1.given i)))
+    file_to_judge (file c) (layout c) (elements_are_bytes (file c) (λ i. omega (arith, c.type_inv.file i)))
     c.read_to_judge-found.ensures c.in-Accepted.is c.value-initial.ensures c.value-target.ensures
     c.value-script.ensures
 

@@ -25,9 +25,8 @@ given : (c : After-value-in-Accepted)
     → Given (read_file (file c)) (layout c).rules c.value.result.now c.value-in-Accepted.result.now (layout c).has_keep
     (value_at (layout c).keep (file c))
 given c =
-    let known = c.shared_slice_known-1 in
     file_given
-    (file_held (file c) (elements_are_bytes (file c) (λ i. omega (arith, known.given i))) c.read-found.ensures
+    (file_held (file c) (elements_are_bytes (file c) (λ i. omega (arith, c.type_inv.file i))) c.read-found.ensures
     c.in-Accepted.is)
     c.value.ensures c.value-in-Accepted.ensures refl
 

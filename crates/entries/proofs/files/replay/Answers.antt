@@ -18,6 +18,6 @@ returns-in-Accepted c =
     let a = c.args in
     let file = a.file.now in
     replayed_file file c.in-Accepted.layout
-    (elements_are_bytes file (λ i. omega (arith, c.shared_slice_known-1.given i)))
+    (elements_are_bytes file (λ i. omega (arith, c.type_inv.file i)))
     (sym c.in-Accepted.is ∙ c.read_to_judge-found.ensures) a.place.now
     c.value.ensures c.value-in-Accepted.ensures c.replay_into.ensures

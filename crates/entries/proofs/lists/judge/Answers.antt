@@ -31,12 +31,12 @@ lent c =
 passed : (c : In-Good) → LentRead (lent (goal.at.In-Good c).After-values_checked-c)
 passed c =
     values_passed (lent (goal.at.In-Good c).After-values_checked-c) c.values_checked-c.ensures
-    (elements_are_bytes _ (λ i. omega (arith, c.shared_slice_known-1.given i)))
-    (elements_are_bytes _ (λ i. omega (arith, c.shared_slice_known-2-1.given i)))
-    (elements_are_bytes _ (λ i. omega (arith, c.shared_slice_known-3-1.given i)))
-    (elements_are_bytes _ (λ i. omega (arith, c.shared_slice_known-4-1.given i)))
-    (elements_are_bytes _ (λ i. omega (arith, c.shared_slice_known-5-1.given i)))
-    (elements_are_bytes _ (λ i. omega (arith, c.shared_slice_known-6-1.given i)))
+    (elements_are_bytes _ (λ i. omega (arith, c.type_inv.rules i)))
+    (elements_are_bytes _ (λ i. omega (arith, c.type_inv.initial i)))
+    (elements_are_bytes _ (λ i. omega (arith, c.type_inv.target i)))
+    (elements_are_bytes _ (λ i. omega (arith, c.type_inv.default i)))
+    (elements_are_bytes _ (λ i. omega (arith, c.type_inv.keep i)))
+    (elements_are_bytes _ (λ i. omega (arith, c.type_inv.script i)))
     c.in-Good.is
 
 pub verdict_of-requires : goal.verdict_of-requires

@@ -3,7 +3,6 @@
 use mathlib.Core.Path.{sym, ◌∙◌}
 use Rattle.values.proofs.Given.{Rules, rules_passed}
 use Rattle.entries.proofs.Decisions.{tested_at_rules, tested_at_policy, tested_at_default}
-use borrow.Author.Rules.{rules}
 use Rattle.entries.proofs.lists.tested.Goals as goal
 use Rattle.entries.proofs.lists.tested.Goals.{In_default}
 

@@ -62,8 +62,7 @@ returns-in-Bad-c c =
 
 pub returns-in-Good : goal.returns-in-Good
 returns-in-Good c =
-    let known = c.shared_slice_known-1 in
     λ f begun.
     passed_on c.args.file.now c.args.progress f begun c.requires.0
-    (elements_are_bytes c.args.file.now (λ i. omega (arith, known.given i))) _ _ _ _ (found (goal.at.returns-in-Good c).After-value f begun) c.value.ensures
+    (elements_are_bytes c.args.file.now (λ i. omega (arith, c.type_inv.file i))) _ _ _ _ (found (goal.at.returns-in-Good c).After-value f begun) c.value.ensures
     (sym c.in-Good.is ∙ c.checked-c.ensures f begun (field (goal.at.returns-in-Good c).After-value f begun)) c.placed-layout.ensures

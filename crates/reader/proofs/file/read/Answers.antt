@@ -13,7 +13,7 @@ use Rattle.reader.specs.Steps.{Begun}
 use Rattle.reader.specs.declared.file.Progress.{Progress}
 use Rattle.reader.proofs.Reading.{begun_at_start, begun_again, turned_away, ended_right}
 use Rattle.reader.proofs.file.read.Goals as goal
-use Rattle.reader.proofs.file.read.Goals.{After-next_field-next, After-shared_slice_known-1, In-Next}
+use Rattle.reader.proofs.file.read.Goals.{After-next_field-next, In-Next}
 
 pub loop-progress-init : goal.loop-progress-init
 loop-progress-init c = (nothing, rw c.nothing_read-progress.ensures (begun_at_start c.args.file.now))
@@ -21,15 +21,12 @@ loop-progress-init c = (nothing, rw c.nothing_read-progress.ensures (begun_at_st
 pub next_field-next-requires : goal.next_field-next-requires
 next_field-next-requires c = (c.loop-progress-test.true, c.loop-progress.invariant, c.apart-differing.ensures)
 
--- where a field was read: the call, the file, that it is bytes, and what was known before
-abbrev known : After-next_field-next → After-shared_slice_known-1
-known c = c.before.before.before.before.before.before
-
+-- where a field was read: the file, that it is bytes, and what was known before
 abbrev file : After-next_field-next → List ℕ
-file c = (known c).before.args.file.now
+file c = c.args.file.now
 
 bytes : (c : After-next_field-next) → AreBytes (file c)
-bytes c = elements_are_bytes (file c) (λ i. omega (arith, (known c).shared-slice-known.given i))
+bytes c = elements_are_bytes (file c) (λ i. omega (arith, c.type_inv.file i))
 
 abbrev before : After-next_field-next → Progress
 before c = c.loop-progress.progress
