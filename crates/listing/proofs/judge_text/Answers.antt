@@ -2,7 +2,6 @@
 use native.Mathlib.Omega.{arith}
 use Rattle.listing.specs.Text.{judge_printed}
 use Rattle.lines.proofs.HandedOver.{no_room, room}
-use borrow.Author.Rules.{rules}
 use Rattle.listing.proofs.judge_text.Goals as goal
 
 pub returns-then-place-needed : goal.returns-then-place-needed

@@ -1,7 +1,6 @@
 -- `judged_needed` meets its contract: what is put into no place at all still ends where the text ends. Assumes nothing.
 use native.Mathlib.Omega.{arith}
 use mathlib.Core.Logic.{inl, inr}
-use borrow.Author.Rules.{rules}
 use Rattle.listing.proofs.judged_needed.Goals as goal
 
 pub returns-then-room-ge-MOST_TEXT : goal.returns-then-room-ge-MOST_TEXT

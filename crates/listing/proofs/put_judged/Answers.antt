@@ -3,7 +3,6 @@ use native.Mathlib.Omega.{arith}
 use mathlib.Core.Path.{sym, ◌∙◌}
 use Rattle.lines.proofs.Pieces.{whole_wider}
 use Rattle.listing.proofs.JudgeTexts.{printed_refusal, printed_verdict}
-use borrow.Author.Rules.{rules}
 use Rattle.listing.proofs.put_judged.Goals as goal
 
 pub returns-in-Turned : goal.returns-in-Turned

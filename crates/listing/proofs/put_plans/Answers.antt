@@ -9,7 +9,6 @@ use Rattle.reader.proofs.ShownReadings.{file_refused}
 use Rattle.entries.proofs.Given.{Given, file_held, file_given}
 use Rattle.lines.proofs.Pieces.{whole_wider}
 use Rattle.listing.proofs.PlanTexts.{printed_refusal}
-use borrow.Author.Rules.{rules}
 use Rattle.listing.proofs.put_plans.Goals as goal
 use Rattle.listing.proofs.put_plans.Goals.{After-listed-target}
 

@@ -1,4 +1,4 @@
--- `is_digit_lem` meets its contract: its tests are those of the definition, in the same order. Assumes nothing.
+-- `is_digit` meets its contract: its tests are those of the definition, in the same order. Assumes nothing.
 use borrow.Author.Tests.{le-leb, lt-leb}
 use Rattle.numerals.specs.Numerals.{is_digit}
 use Rattle.numerals.proofs.is_digit.Goals as goal

@@ -12,7 +12,6 @@ use Rattle.deployment.proofs.Lent.{turned_away}
 use Rattle.entries.proofs.Given.{file_turned_to_judge}
 use Rattle.console_text.specs.Answers.{text_of_reading, text_of_file}
 use Rattle.console_writer.proofs.Values.{file_fit, file_written}
-use borrow.Author.Rules.{rules}
 use Rattle.console_writer.proofs.files.script_text.Goals as goal
 use Rattle.console_writer.proofs.files.script_text.Goals.{After-read_to_judge-found}
 
