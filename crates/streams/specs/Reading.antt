@@ -1,7 +1,7 @@
 -- What a read tells of the input, and what can be said of the whole: no contract says which bytes come in. Assumes nothing.
 use Rattle.std.specs.Prelude.{ℕ, zero, suc, ◌+◌, ◌<◌, ◌≤◌, min, ℤ, pos, negsuc}
 use Rattle.streams.specs.declared.Piece.{Piece}
-use Rattle.streams.specs.declared.Piece.TheVariants.{Bytes as Some, End, Failed}
+use Rattle.streams.specs.declared.Piece.TheVariants.{Bytes as Came, End, Failed}
 use Rattle.streams.specs.declared.Input.{Input}
 use Rattle.streams.specs.declared.Input.TheVariants.{Bytes, Unreadable}
 use Rattle.streams.specs.declared.Next.{Next}
@@ -10,7 +10,7 @@ use Rattle.streams.specs.declared.Next.TheVariants.{More, Over}
 -- bytes that a read brought: none are the end of the input
 abbrev pub brought : ℕ → Piece
 brought zero = End
-brought (suc n) = Some (suc n)
+brought (suc n) = Came (suc n)
 
 -- a read that is lent `most` bytes fails by an answer below 0, and brings that many bytes by another
 abbrev pub piece_of : ℤ → ℕ → Piece
@@ -19,13 +19,13 @@ piece_of (negsuc k) most = Failed
 
 -- what a piece that comes behind `done` bytes means: a read that failed makes all of the input unreadable
 abbrev pub next_of : Piece → ℕ → Next
-next_of (Some n) done = More n
+next_of (Came n) done = More n
 next_of End done = Over (Bytes done)
 next_of Failed done = Over Unreadable
 
 -- a piece that comes behind `done` bytes has at least one byte and lies within a place of `size`
 abbrev pub Fitting : Piece → ℕ → ℕ → Type 0
-Fitting (Some n) done size = (0 < n) × (done + n ≤ size)
+Fitting (Came n) done size = (0 < n) × (done + n ≤ size)
 Fitting End done size = Unit {0}
 Fitting Failed done size = Unit {0}
 

@@ -24,14 +24,14 @@ loop-i-preserved c =
       inv.1,
       inv.2,
       elim c.if-kept-wanted.branch [
-        then-kept-wanted+then-number_at w ↦
-          rw w.kept-is
-          (found_one _ _ k i inv.3 more (omega arith)
-          (sym w.number_at.ensures ∙ w.if-number_at.true ∙ w.number_at-then-kept-wanted.ensures))
+        | then-kept-wanted+then-number_at w ↦
+            rw w.kept-is
+            (found_one _ _ k i inv.3 more (omega arith)
+            (sym w.number_at.ensures ∙ w.if-number_at.true ∙ w.number_at-then-kept-wanted.ensures))
         | then-kept-wanted+else-number_at w ↦
-          rw w.kept-is
-          (found_another _ _ k i inv.3 more (omega arith)
-          (λ e. w.if-number_at.false (w.number_at.ensures ∙ e ∙ sym w.number_at-then-kept-wanted.ensures)))
+            rw w.kept-is
+            (found_another _ _ k i inv.3 more (omega arith)
+            (λ e. w.if-number_at.false (w.number_at.ensures ∙ e ∙ sym w.number_at-then-kept-wanted.ensures)))
         | else-kept-wanted w ↦ rw w.kept-is (found_enough _ _ k i inv.3 more (omega arith))
       ],
     )

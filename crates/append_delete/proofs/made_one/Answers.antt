@@ -8,14 +8,13 @@ pub marked-marks-requires : goal.marked-marks-requires
 marked-marks-requires c = kept_inside _ _ c.kept_run-kept.result c.kept_run-kept.ensures
 
 pub send_appends-commands-requires : goal.send_appends-commands-requires
-send_appends-commands-requires c =
-    (
-      c.send_deletes-deleted.ensures.1.long,
-      kept_inside _ _ c.kept_run-kept.result c.kept_run-kept.ensures,
-      rw c.send_deletes-deleted.ensures.0
-          (plan_few _ _ c.kept_run-kept.result c.kept_run-kept.ensures c.marked-marks.result c.requires.0.inside c.marked-marks.ensures
-          c.requires.0.distinct c.requires.1 c.requires.2),
-    )
+send_appends-commands-requires c = (
+  c.send_deletes-deleted.ensures.1.long,
+  kept_inside _ _ c.kept_run-kept.result c.kept_run-kept.ensures,
+  rw c.send_deletes-deleted.ensures.0
+      (plan_few _ _ c.kept_run-kept.result c.kept_run-kept.ensures c.marked-marks.result c.requires.0.inside c.marked-marks.ensures
+      c.requires.0.distinct c.requires.1 c.requires.2),
+)
 
 pub returns : goal.returns
 returns c =

@@ -24,13 +24,13 @@ loop-i-preserved c =
     let is = c.number_at-r.ensures in
     let more : i < length l = omega arith in
     elim c.if-r-lt-MOST_RULES.branch [
-      then-r-lt-MOST_RULES w ↦
-        rw w.marks-is (
-          omega arith,
-          inv.1,
-          simp length-set inv.2,
-          rw is (marks_one marks l i inv.3 more inv.2 (omega arith)),
-        )
+      | then-r-lt-MOST_RULES w ↦
+          rw w.marks-is (
+            omega arith,
+            inv.1,
+            simp length-set inv.2,
+            rw is (marks_one marks l i inv.3 more inv.2 (omega arith)),
+          )
       | else-r-lt-MOST_RULES w ↦ rw w.marks-is (omega arith, inv.1, inv.2, marks_out marks l i inv.3 more (omega arith))
     ]
 

@@ -20,11 +20,11 @@ loop-k-preserved c =
     let is = c.number_at-r.ensures in
     let more = c.loop-k-test.true in
     elim c.if-not-marks-r.branch [
-      then-not-marks-r w ↦
-        rw (w.field-is, w.n-is)
-        (deleting_one _ _ _ _ _ _ _ inv more _ (omega arith) (rw (← is) w.if-not-marks-r.true) (rw (← is) w.put.ensures))
+      | then-not-marks-r w ↦
+          rw (w.field-is, w.n-is)
+          (deleting_one _ _ _ _ _ _ _ inv more _ (omega arith) (rw (← is) w.if-not-marks-r.true) (rw (← is) w.put.ensures))
       | else-not-marks-r w ↦
-        rw (w.field-is, w.n-is) (deleting_next _ _ _ _ _ _ _ inv more (rw (← is) w.if-not-marks-r.false))
+          rw (w.field-is, w.n-is) (deleting_next _ _ _ _ _ _ _ inv more (rw (← is) w.if-not-marks-r.false))
     ]
 
 pub returns : goal.returns

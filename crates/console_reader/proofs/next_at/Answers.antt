@@ -63,8 +63,8 @@ pub returns-then-one-gt-MOST_NUMBER : goal.returns-then-one-gt-MOST_NUMBER
 returns-then-one-gt-MOST_NUMBER c =
     line_beyond (there (goal.at.returns-then-one-gt-MOST_NUMBER c).In-Is)
     (elim c.then-one-gt-MOST_NUMBER.branch [
-      then-one-gt-MOST_NUMBER-via-then-one-gt-MOST_NUMBER w ↦ inl w.if-one-gt-MOST_NUMBER.true
-    | then-one-gt-MOST_NUMBER-via-else-one-gt-MOST_NUMBER+then-most_second-two w ↦ inr (omega (arith, w.most_second.ensures, w.if-most_second-two.true))
+      | then-one-gt-MOST_NUMBER-via-then-one-gt-MOST_NUMBER w ↦ inl w.if-one-gt-MOST_NUMBER.true
+      | then-one-gt-MOST_NUMBER-via-else-one-gt-MOST_NUMBER+then-most_second-two w ↦ inr (omega (arith, w.most_second.ensures, w.if-most_second-two.true))
     ])
 
 -- what is heard of the second number fits

@@ -34,11 +34,11 @@ keeping c =
     let a = c.args in
     let at = (goal.at.Joined-has_keep c).After-list_of-new in
     elim c.if-has_keep.branch [
-      then-has_keep w ↦
-        kept_given _ _ a.keep.now _ a.has_keep w.if-has_keep.true c.requires.0 c.requires.1 (ap view w.keeping-is ∙ w.list_of-keeping.ensures)
+      | then-has_keep w ↦
+          kept_given _ _ a.keep.now _ a.has_keep w.if-has_keep.true c.requires.0 c.requires.1 (ap view w.keeping-is ∙ w.list_of-keeping.ensures)
       | else-has_keep w ↦
-        kept_chosen _ _ a.keep.now _ a.has_keep w.if-has_keep.false
-        (ap view w.keeping-is ∙ w.own_choice-keeping.ensures ∙ ap₂ own_choice (old at) (new at))
+          kept_chosen _ _ a.keep.now _ a.has_keep w.if-has_keep.false
+          (ap view w.keeping-is ∙ w.own_choice-keeping.ensures ∙ ap₂ own_choice (old at) (new at))
     ]
 
 pub stage_one-stage-requires : goal.stage_one-stage-requires

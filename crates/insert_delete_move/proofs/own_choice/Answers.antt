@@ -74,7 +74,7 @@ loop-i-preserved c =
     let more : now.i < length (view target) = omega (arith, c.loop-i-test.true, c.count-len.ensures) in
     let at-place = (goal.at.loop-i-preserved c).After-place_of-place in
     elim c.if-last-place.branch [
-      then-last-place w ↦ (
+      | then-last-place w ↦ (
         ap length w.kept-is ∙ length-set now.kept now.count _ ∙ now.invariant.0,
         omega (arith, w.count-is),
         λ initial says d. rw (w.kept-is, w.count-is, w.last-is, seen, rule_shown target now.i more, looked_up at-place initial says)

@@ -17,9 +17,9 @@ pub returns-then-size-lt2 : goal.returns-then-size-lt2
 returns-then-size-lt2 c =
     let word = c.args.word.now in
     elim c.then-size-lt2.branch [
-      then-size-lt2-via-then-size-lt2 w ↦ sym (too_short word w.if-size-lt2.true)
-    | then-size-lt2-via-else-size-lt2+then-word-ne-OPENING w ↦
-        sym (not_opened word w.if-size-lt2.false (ne_eqb _ _ w.if-word-ne-OPENING.true))
-    | then-size-lt2-via-else-size-lt2+else-word-ne-OPENING+then-word-size-ne-CLOSING w ↦
-        sym (not_closed word w.if-size-lt2.false (eq-eqb _ _ w.if-word-ne-OPENING.false) (ne_eqb _ _ w.if-word-size-ne-CLOSING.true))
+      | then-size-lt2-via-then-size-lt2 w ↦ sym (too_short word w.if-size-lt2.true)
+      | then-size-lt2-via-else-size-lt2+then-word-ne-OPENING w ↦
+          sym (not_opened word w.if-size-lt2.false (ne_eqb _ _ w.if-word-ne-OPENING.true))
+      | then-size-lt2-via-else-size-lt2+else-word-ne-OPENING+then-word-size-ne-CLOSING w ↦
+          sym (not_closed word w.if-size-lt2.false (eq-eqb _ _ w.if-word-ne-OPENING.false) (ne_eqb _ _ w.if-word-size-ne-CLOSING.true))
     ]

@@ -27,10 +27,10 @@ returns-then-name-k-le-BLANK c =
     let k = c.loop-k.k in
     let byte = get_or name k 0 in
     let other : in_name byte ≡ false =
-      elim c.then-name-k-le-BLANK.branch [
-        then-name-k-le-BLANK-via-then-name-k-le-BLANK w ↦ no_control byte w.if-name-k-le-BLANK.true
+    elim c.then-name-k-le-BLANK.branch [
+      | then-name-k-le-BLANK-via-then-name-k-le-BLANK w ↦ no_control byte w.if-name-k-le-BLANK.true
       | then-name-k-le-BLANK-via-else-name-k-le-BLANK+then-name-k-eq-QUOTE w ↦ no_quote byte (eq-eqb _ _ w.if-name-k-eq-QUOTE.true)
-      ] in
+    ] in
     sym (c.loop-k.invariant ∙ name_breaks name k c.loop-k-test.true other)
 
 pub returns-then-name-eq0 : goal.returns-then-name-eq0

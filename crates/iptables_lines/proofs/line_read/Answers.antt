@@ -45,10 +45,10 @@ returns-then-line-eq0 c =
     let s = line (goal.at.returns-then-line-eq0 c).After-starts_with in
     c.plain-then-line-eq0.ensures
     ∙ elim c.then-line-eq0.branch [
-      then-line-eq0-via-then-line-eq0 w ↦
-        empty_passed s (not_star (goal.at.returns-then-line-eq0 c).Else-starts_with) (not_commit (goal.at.returns-then-line-eq0 c).Else-same_bytes) w.if-line-eq0.true
-    | then-line-eq0-via-else-line-eq0+then-starts_with-2 w ↦
-        comment_passed s (not_star (goal.at.returns-then-line-eq0 c).Else-starts_with) (not_commit (goal.at.returns-then-line-eq0 c).Else-same_bytes) w.if-line-eq0.false (sym w.starts_with-else-line-eq0.ensures ∙ w.if-starts_with-2.true)
+      | then-line-eq0-via-then-line-eq0 w ↦
+          empty_passed s (not_star (goal.at.returns-then-line-eq0 c).Else-starts_with) (not_commit (goal.at.returns-then-line-eq0 c).Else-same_bytes) w.if-line-eq0.true
+      | then-line-eq0-via-else-line-eq0+then-starts_with-2 w ↦
+          comment_passed s (not_star (goal.at.returns-then-line-eq0 c).Else-starts_with) (not_commit (goal.at.returns-then-line-eq0 c).Else-same_bytes) w.if-line-eq0.false (sym w.starts_with-else-line-eq0.ensures ∙ w.if-starts_with-2.true)
     ]
 
 pub returns : goal.returns

@@ -40,11 +40,11 @@ unfolding part
 returns-then-middle-line c =
     let inside = c.loop-end-test.true in
     sym (c.loop-end.invariant ∙ elim c.then-middle-line.branch [
-      then-middle-line-via-then-middle-line w ↦
-        left_unknown (line (goal.at.returns-then-middle-line c).At-loop-end) c.loop-end.end c.cut-middle.result inside c.cut-middle.ensures w.if-middle-line.true
-    | then-middle-line-via-else-middle-line+then-not-is_option w ↦
-        unknown (line (goal.at.returns-then-middle-line c).At-loop-end) c.loop-end.end c.cut-middle.result inside c.cut-middle.ensures w.if-middle-line.false
-        (sym w.is_option.ensures ∙ w.if-not-is_option.true)
+      | then-middle-line-via-then-middle-line w ↦
+          left_unknown (line (goal.at.returns-then-middle-line c).At-loop-end) c.loop-end.end c.cut-middle.result inside c.cut-middle.ensures w.if-middle-line.true
+      | then-middle-line-via-else-middle-line+then-not-is_option w ↦
+          unknown (line (goal.at.returns-then-middle-line c).At-loop-end) c.loop-end.end c.cut-middle.result inside c.cut-middle.ensures w.if-middle-line.false
+          (sym w.is_option.ensures ∙ w.if-not-is_option.true)
     ])
 
 pub returns : goal.returns

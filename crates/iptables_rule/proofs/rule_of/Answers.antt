@@ -50,10 +50,10 @@ returns-then-not-options_known c =
     c.unread.ensures
     ∙ ap rule_read_told (sym (unread (words (goal.at.returns-then-not-options_known c).After-options_known) λ r whole parts.
     elim c.then-not-options_known.branch [
-      then-not-options_known-via-then-not-options_known w ↦
-        never (both_and whole parts.all_known) (sym c.options_known.ensures ∙ w.if-not-options_known.true)
-    | then-not-options_known-via-else-not-options_known+then-not-options_stand w ↦
-        never parts.all_stand (sym w.options_stand.ensures ∙ w.if-not-options_stand.true)
+      | then-not-options_known-via-then-not-options_known w ↦
+          never (both_and whole parts.all_known) (sym c.options_known.ensures ∙ w.if-not-options_known.true)
+      | then-not-options_known-via-else-not-options_known+then-not-options_stand w ↦
+          never parts.all_stand (sym w.options_stand.ensures ∙ w.if-not-options_stand.true)
     ]))
 
 -- 57: not one target

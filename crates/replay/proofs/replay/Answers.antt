@@ -43,7 +43,7 @@ script_passed c = sym c.in_default-d.is ∙ c.script_checked-d.ensures
 top : (c : Joined-size-lt-MOST_RULES) → c.if-size-lt-MOST_RULES.top ≡ min c.args.size 1024
 top c =
     elim c.if-size-lt-MOST_RULES.branch [
-      then-size-lt-MOST_RULES w ↦ omega (arith, w.top-is)
+      | then-size-lt-MOST_RULES w ↦ omega (arith, w.top-is)
       | else-size-lt-MOST_RULES w ↦ omega (arith, w.top-is)
     ]
 

@@ -35,7 +35,7 @@ says_target c =
 pass : (c : At-loop-k)
     → let stage = c.args.stage in
     Pass (view c.args.target) stage.settled (view stage.list) c.args.field.now stage.sent c.loop-k.list c.loop-k.sent c.loop-k.field
-      (c.count-len.result - c.loop-k.k)
+    (c.count-len.result - c.loop-k.k)
 pass c = c.loop-k.invariant (view c.args.target) c.requires.0 (says_target (goal.at.At-loop-k c).After-places_of-to)
 
 -- the list has no more rules than slots
@@ -131,13 +131,13 @@ loop-k-preserved c =
     let p = again turn (c.loop-k.invariant target policy says) in
     pass_at {i = at turn} (omega (arith, c.loop-k-test.true))
     (elim c.if-not-settled-r.branch [
-      then-not-settled-r w ↦
-        rw (w.list-is, w.sent-is, w.field-is)
-        (pass_waiting _ _ _ _ _ _ _ _ _ p (mark turn w.if-not-settled-r.true) c.places_of-to.result _ _ _ _ policy says
-        (omega arith) (next turn) w.settle-list.ensures)
+      | then-not-settled-r w ↦
+          rw (w.list-is, w.sent-is, w.field-is)
+          (pass_waiting _ _ _ _ _ _ _ _ _ p (mark turn w.if-not-settled-r.true) c.places_of-to.result _ _ _ _ policy says
+          (omega arith) (next turn) w.settle-list.ensures)
       | else-not-settled-r w ↦
-        rw (w.list-is, w.sent-is, w.field-is)
-        (pass_settled _ _ _ _ _ _ _ _ _ p (mark turn w.if-not-settled-r.false))
+          rw (w.list-is, w.sent-is, w.field-is)
+          (pass_settled _ _ _ _ _ _ _ _ _ p (mark turn w.if-not-settled-r.false))
     ])
 
 pub shape_of-field : goal.shape_of-field

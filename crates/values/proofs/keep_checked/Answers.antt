@@ -27,7 +27,7 @@ returns-else-occurs_in c =
     let listed = passes c.list_fits.ensures c.if-not-list_fits.false-raw in
     let first = c.occurs_in.ensures in
     elim c.else-occurs_in.branch [
-      else-occurs_in-via-then-occurs_in+else-occurs_in-2 w ↦
-        rw (listed, sym first ∙ w.if-occurs_in.true, sym w.occurs_in-then-occurs_in.ensures ∙ w.if-occurs_in-2.false)
+      | else-occurs_in-via-then-occurs_in+else-occurs_in-2 w ↦
+          rw (listed, sym first ∙ w.if-occurs_in.true, sym w.occurs_in-then-occurs_in.ensures ∙ w.if-occurs_in-2.false)
       | else-occurs_in-via-else-occurs_in w ↦ rw (listed, sym first ∙ w.if-occurs_in.false)
     ]

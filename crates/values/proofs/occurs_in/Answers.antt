@@ -34,22 +34,20 @@ loop-i-preserved c =
     let kept = c.number_at.ensures in
     let listed = c.number_at-in-loop-i.ensures in
     elim c.if-number_at.branch [
-      then-number_at w ↦
-        (
-          inv.0,
-          inv.1,
-          omega (arith, w.i-is),
-          omega arith,
-          inv.4 ∙ rw w.i-is (occurs_both k l c.loop-i.i c.loop-i.j in-k in-l (sym kept ∙ w.if-number_at.true ∙ listed)),
-        )
-      | else-number_at w ↦
-        (
-          inv.0,
-          inv.1,
-          omega (arith, w.i-is),
-          omega arith,
-          inv.4 ∙ rw w.i-is (occurs_later k l c.loop-i.i c.loop-i.j in-k in-l (λ e. w.if-number_at.false (kept ∙ e ∙ sym listed))),
-        )
+      | then-number_at w ↦ (
+        inv.0,
+        inv.1,
+        omega (arith, w.i-is),
+        omega arith,
+        inv.4 ∙ rw w.i-is (occurs_both k l c.loop-i.i c.loop-i.j in-k in-l (sym kept ∙ w.if-number_at.true ∙ listed)),
+      )
+      | else-number_at w ↦ (
+        inv.0,
+        inv.1,
+        omega (arith, w.i-is),
+        omega arith,
+        inv.4 ∙ rw w.i-is (occurs_later k l c.loop-i.i c.loop-i.j in-k in-l (λ e. w.if-number_at.false (kept ∙ e ∙ sym listed))),
+      )
     ]
 
 pub returns : goal.returns
@@ -60,11 +58,11 @@ returns c =
     let count = c.listed-count.result in
     let inv = c.loop-i.invariant in
     elim c.loop-i-test.branch [
-      then-loop-i-test+else-j-top w ↦
-        let few : length l ≤ c.loop-i.j = omega (arith, ltb-false) in
-        ne_eqb c.loop-i.i count (λ e. omega arith)
-        ∙ sym (inv.4 ∙ occurs_short k l c.loop-i.i c.loop-i.j (omega arith) few)
+      | then-loop-i-test+else-j-top w ↦
+          let few : length l ≤ c.loop-i.j = omega (arith, ltb-false) in
+          ne_eqb c.loop-i.i count (λ e. omega arith)
+          ∙ sym (inv.4 ∙ occurs_short k l c.loop-i.i c.loop-i.j (omega arith) few)
       | else-loop-i-test w ↦
-        eq-eqb c.loop-i.i count (omega arith)
-        ∙ sym (inv.4 ∙ occurs_done k (drop c.loop-i.j l) c.loop-i.i (omega arith))
+          eq-eqb c.loop-i.i count (omega arith)
+          ∙ sym (inv.4 ∙ occurs_done k (drop c.loop-i.j l) c.loop-i.i (omega arith))
     ]

@@ -12,9 +12,9 @@ use Rattle.values.proofs.script_fits.Goals.{Joined-size-ge1, then-size-ge1, else
 two_tests : (c : Joined-size-ge1) → c.if-size-ge1.value ≡ (leb 1 c.args.size && eqb ((c.args.size - 1) % 5) 0)
 two_tests c =
     elim c.if-size-ge1.branch [
-      then-size-ge1 w ↦ rw (le-leb 1 c.args.size w.if-size-ge1.true) w.value-is
+      | then-size-ge1 w ↦ rw (le-leb 1 c.args.size w.if-size-ge1.true) w.value-is
       | else-size-ge1 w ↦
-        rw (lt-leb 1 c.args.size w.if-size-ge1.false) (w.value-is ∙ lt-leb 1 c.args.size w.if-size-ge1.false)
+          rw (lt-leb 1 c.args.size w.if-size-ge1.false) (w.value-is ∙ lt-leb 1 c.args.size w.if-size-ge1.false)
     ]
 
 pub returns-then-size-eq0 : goal.returns-then-size-eq0

@@ -21,9 +21,9 @@ loop-code-preserved c =
       omega (arith, c.loop-code-test.true),
       c.loop-code.invariant.1
           ∙ elim c.if-allows.branch [
-            then-allows+in_default w ↦
+            | then-allows+in_default w ↦
                 no_line args.maker args.kind rest code args.text.now (sym allows ∙ w.if-allows.true) (rw w.in_default.is at w.line_at-line.ensures)
-          | else-allows w ↦ other_type args.maker args.kind rest code (sym allows ∙ w.if-allows.false)
+            | else-allows w ↦ other_type args.maker args.kind rest code (sym allows ∙ w.if-allows.false)
           ],
     )
 

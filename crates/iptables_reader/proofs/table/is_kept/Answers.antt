@@ -27,10 +27,10 @@ other : (c : Joined-else-marks-k) → is_it (goal.at.Joined-else-marks-k c).At-l
 other c =
     let a = c.args in
     elim c.else-marks-k.branch [
-      else-marks-k-via-then-marks-k+else-same_bytes w ↦ rw (← w.record_at.ensures) (sym w.same_bytes.ensures ∙ w.if-same_bytes.false)
-    | else-marks-k-via-else-marks-k w ↦
-        other_mark a.listing.now a.starts.now a.bytes.now a.count c.loop-k.k c.requires.1 c.loop-k-test.true
-        a.marks.now c.requires.2 (λ e. w.if-marks-k.false (e ∙ sym c.mark_of-mark.ensures.0))
+      | else-marks-k-via-then-marks-k+else-same_bytes w ↦ rw (← w.record_at.ensures) (sym w.same_bytes.ensures ∙ w.if-same_bytes.false)
+      | else-marks-k-via-else-marks-k w ↦
+          other_mark a.listing.now a.starts.now a.bytes.now a.count c.loop-k.k c.requires.1 c.loop-k-test.true
+          a.marks.now c.requires.2 (λ e. w.if-marks-k.false (e ∙ sym c.mark_of-mark.ensures.0))
     ]
 
 pub loop-k-preserved : goal.loop-k-preserved

@@ -34,14 +34,14 @@ returns c rules kept =
     let a = c.args in
     let unknown = sym (found (goal.at.returns c).After-is_kept) ∙ c.if-is_kept.false in
     elim c.if-count-lt-MOST_RULES.branch [
-      then-count-lt-MOST_RULES w ↦
-        rw (w.marks-is, w.starts-is)
-        (kept_more a.listing.now a.marks.now a.starts.now a.count rules kept a.start c.requires.2 c.if-count-gt-MOST_RULES.false unknown
-        w.if-count-lt-MOST_RULES.true w.mark_of.result (w.mark_of.ensures.0 ∙ ap mark c.requires.1))
-    | else-count-lt-MOST_RULES w ↦
-        rw (w.marks-is, w.starts-is)
-        (kept_full a.listing.now a.marks.now a.starts.now a.count rules kept a.start c.requires.2 c.if-count-gt-MOST_RULES.false unknown
-        w.if-count-lt-MOST_RULES.false)
+      | then-count-lt-MOST_RULES w ↦
+          rw (w.marks-is, w.starts-is)
+          (kept_more a.listing.now a.marks.now a.starts.now a.count rules kept a.start c.requires.2 c.if-count-gt-MOST_RULES.false unknown
+          w.if-count-lt-MOST_RULES.true w.mark_of.result (w.mark_of.ensures.0 ∙ ap mark c.requires.1))
+      | else-count-lt-MOST_RULES w ↦
+          rw (w.marks-is, w.starts-is)
+          (kept_full a.listing.now a.marks.now a.starts.now a.count rules kept a.start c.requires.2 c.if-count-gt-MOST_RULES.false unknown
+          w.if-count-lt-MOST_RULES.false)
     ]
 
 pub is_kept-requires : goal.is_kept-requires

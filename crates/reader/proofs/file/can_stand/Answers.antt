@@ -27,11 +27,11 @@ returns-then-tag-eq-KEEP_TAG c =
     let tag = c.args.tag in
     rw c.in-3.is
     (elim c.if-tag-eq-DEFAULT_TAG.branch [
-      then-tag-eq-DEFAULT_TAG w ↦ w.t-6-is ∙ first_tag tag 6 (4 ∷ 5 ∷ []) w.if-tag-eq-DEFAULT_TAG.true
+      | then-tag-eq-DEFAULT_TAG w ↦ w.t-6-is ∙ first_tag tag 6 (4 ∷ 5 ∷ []) w.if-tag-eq-DEFAULT_TAG.true
       | else-tag-eq-DEFAULT_TAG w ↦
-        let isnt = w.if-tag-eq-DEFAULT_TAG.false in
-        let four : tag ≡ 4 = omega (arith, isnt) in
-        w.t-6-is ∙ first_tag tag 4 (5 ∷ []) four ∙ later_tag tag 6 (4 ∷ 5 ∷ []) isnt
+          let isnt = w.if-tag-eq-DEFAULT_TAG.false in
+          let four : tag ≡ 4 = omega (arith, isnt) in
+          w.t-6-is ∙ first_tag tag 4 (5 ∷ []) four ∙ later_tag tag 6 (4 ∷ 5 ∷ []) isnt
     ])
 
 pub returns-else-tag-eq-KEEP_TAG : goal.returns-else-tag-eq-KEEP_TAG

@@ -14,7 +14,7 @@ returns c =
     λ size.
     let a = c.args in
     let smaller : c.if-i-j.from ≡ min a.i a.j =
-      elim c.if-i-j.branch [ then-i-j w ↦ omega (arith, w.from-is) | else-i-j w ↦ omega (arith, w.from-is) ]
+    elim c.if-i-j.branch [ then-i-j w ↦ omega (arith, w.from-is) | else-i-j w ↦ omega (arith, w.from-is) ]
     in
     c.settle.ensures
     ∙ settles a.self.places.of
