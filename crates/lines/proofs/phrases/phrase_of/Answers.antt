@@ -1,5 +1,5 @@
 -- `phrase_of` meets its contract: each row is that of the table. Assumes nothing.
-use Rattle.std.proofs.Common.{refl, inl, inr, ⊎_elim, arith, ne_eqb}
+use Rattle.std.proofs.Common.{◌≡◌, ◌⊎◌, rules, refl, inl, inr, ⊎_elim, arith, ne_eqb}
 use Rattle.lines.specs.Text.{text, words_of}
 use Rattle.lines.specs.Printing.{words_in}
 use Rattle.lines.proofs.phrases.phrase_of.Goals as goal
@@ -21,6 +21,8 @@ returns-in-3 c = rw c.in-3.is (record { name_inside = omega arith; between_insid
 pub returns-in_default : goal.returns-in_default
 unfolding words_of
 returns-in_default c =
-    let rest = c.in_default.in_default-own.rest in
-    rw (ne_eqb _ 1 rest.0.0.1, ne_eqb _ 2 (λ is. rest.0.1 (inl is)), ne_eqb _ 4 (λ is. rest.0.1 (inr is)), ne_eqb _ 3 rest.1)
+    let code = c.args.code in
+    let not_two : code ≡ 2 → ⊥ = λ is. let either : (code ≡ 2) ⊎ (code ≡ 4) = inl is in search rules in
+    let not_four : code ≡ 4 → ⊥ = λ is. let either : (code ≡ 2) ⊎ (code ≡ 4) = inr is in search rules in
+    rw (ne_eqb code 1 (λ is. omega arith), ne_eqb code 2 not_two, ne_eqb code 4 not_four, ne_eqb code 3 (λ is. omega arith))
     c.move_phrase.ensures
