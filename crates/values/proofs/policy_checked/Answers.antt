@@ -1,7 +1,6 @@
 -- `policy_checked` meets its contract: after the length, the answer is how the list names the catalogue's rules. Assumes nothing.
 use Prim.Native.Nat.{min}
 use mathlib.Core.Path.{◌≡◌, sym, ◌∙◌, ap}
-use Rattle.policy.proofs.Tests.{fails, passes}
 use Rattle.running.specs.Naming.{named}
 use Rattle.deployment.specs.FieldValues.{policy_value}
 use Rattle.catalogue.specs.Answers.{checking}
@@ -12,14 +11,14 @@ use Rattle.values.proofs.policy_checked.Goals.{After-naming-naming}
 
 pub returns-then-not-list_fits : goal.returns-then-not-list_fits
 unfolding checking policy_value
-returns-then-not-list_fits c = rw (fails c.list_fits.ensures c.if-not-list_fits.true-raw)
+returns-then-not-list_fits c = rw (sym c.list_fits.ensures ∙ c.if-not-list_fits.true)
 
 named_is : (c : After-naming-naming)
     → let a = c.args in
     checking (policy_value (min a.size 1024) a.value.now) ≡ answer c.naming-naming.result
 named_is c =
     let a = c.args in
-    policy_answer (min a.size 1024) a.value.now (passes c.list_fits.ensures c.if-not-list_fits.false-raw)
+    policy_answer (min a.size 1024) a.value.now (sym c.list_fits.ensures ∙ c.if-not-list_fits.false)
     ∙ ap answer (sym (c.naming-naming.ensures ∙ ap (named (min a.size 1024)) c.list_of.ensures))
 
 pub returns-in-Outside : goal.returns-in-Outside

@@ -2,11 +2,10 @@
 -- Assumes nothing.
 use Prim.Native.Nat.{ℕ, ◌≤◌}
 use native.Mathlib.Omega.{arith}
-use mathlib.Core.Path.{◌≡◌, sym}
+use mathlib.Core.Path.{◌≡◌, sym, ◌∙◌}
 use mathlib.Core.Bool.{true}
 use lib.ListN.{length}
 use Rattle.policy.specs.Command.{is_type}
-use Rattle.policy.proofs.Tests.{fails, passes}
 use Rattle.deployment.specs.Bytes.{number, part}
 use Rattle.deployment.specs.Values.{script_fits}
 use Rattle.deployment.specs.FieldValues.{script_value}
@@ -16,44 +15,39 @@ use Rattle.catalogue.specs.Answers.{checking}
 use Rattle.values.proofs.Scripts.{wrong_type, wrong_command, right_script}
 use borrow.Author.Rules.{rules}
 use Rattle.values.proofs.script_checked.Goals as goal
-use Rattle.values.proofs.script_checked.Goals.{After-shared_slice_known-2-1, Else-not-is_type}
+use Rattle.values.proofs.script_checked.Goals.{Else-not-is_type}
 
 -- where the length is right there is a type byte
 at_least_one : (size : ℕ) → script_fits size ≡ true → 1 ≤ size
 at_least_one size right = let h = (says_script size).0 right in omega (arith, h.1)
 
 pub bounds-value-0 : goal.bounds-value-0
-bounds-value-0 c = at_least_one _ (passes c.script_fits.ensures c.if-not-script_fits.false-raw)
-
--- after the first test the length is right, so there is a type byte
-long : (c : After-shared_slice_known-2-1) → script_fits (length c.args.value.now) ≡ true
-long c = passes c.script_fits.ensures c.if-not-script_fits.false-raw
-
-typed_at : (c : After-shared_slice_known-2-1) → 1 ≤ length c.args.value.now
-typed_at c = at_least_one _ (long c)
+bounds-value-0 c = at_least_one _ (sym c.script_fits.ensures ∙ c.if-not-script_fits.false)
 
 pub returns-then-not-script_fits : goal.returns-then-not-script_fits
 unfolding checking script_value
-returns-then-not-script_fits c = rw (fails c.script_fits.ensures c.if-not-script_fits.true-raw)
+returns-then-not-script_fits c = rw (sym c.script_fits.ensures ∙ c.if-not-script_fits.true)
 
 -- after the second test there are scripts of the type
 typed : (c : Else-not-is_type) → is_type (number (part 0 1 c.args.value.now)) ≡ true
 typed c =
-    rw (first_byte c.args.value.now (typed_at (goal.at.Else-not-is_type c).After-shared_slice_known-2-1))
-    (passes c.is_type.ensures c.if-not-is_type.false-raw)
+    rw (first_byte c.args.value.now (at_least_one _ (sym c.script_fits.ensures ∙ c.if-not-script_fits.false)))
+    (sym c.is_type.ensures ∙ c.if-not-is_type.false)
 
 pub returns-then-not-is_type : goal.returns-then-not-is_type
 returns-then-not-is_type c =
     let value = c.args.value.now in
-    sym (wrong_type value (long (goal.at.returns-then-not-is_type c).After-shared_slice_known-2-1)
-    (rw (first_byte value (typed_at (goal.at.returns-then-not-is_type c).After-shared_slice_known-2-1)) (fails c.is_type.ensures c.if-not-is_type.true-raw)))
+    let right = sym c.script_fits.ensures ∙ c.if-not-script_fits.false in
+    sym (wrong_type value right (rw (first_byte value (at_least_one _ right)) (sym c.is_type.ensures ∙ c.if-not-is_type.true)))
 
 pub returns-then-not-all_commands : goal.returns-then-not-all_commands
 returns-then-not-all_commands c =
-    sym (wrong_command c.args.value.now (long (goal.at.returns-then-not-all_commands c).After-shared_slice_known-2-1) (typed (goal.at.returns-then-not-all_commands c).Else-not-is_type)
-    (fails c.all_commands.ensures c.if-not-all_commands.true-raw))
+    sym (wrong_command c.args.value.now (sym c.script_fits.ensures ∙ c.if-not-script_fits.false)
+    (typed (goal.at.returns-then-not-all_commands c).Else-not-is_type)
+    (sym c.all_commands.ensures ∙ c.if-not-all_commands.true))
 
 pub returns : goal.returns
 returns c =
-    sym (right_script c.args.value.now (long (goal.at.returns c).After-shared_slice_known-2-1) (typed (goal.at.returns c).Else-not-is_type)
-    (passes c.all_commands.ensures c.if-not-all_commands.false-raw))
+    sym (right_script c.args.value.now (sym c.script_fits.ensures ∙ c.if-not-script_fits.false)
+    (typed (goal.at.returns c).Else-not-is_type)
+    (sym c.all_commands.ensures ∙ c.if-not-all_commands.false))

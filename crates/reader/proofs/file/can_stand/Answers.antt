@@ -57,11 +57,10 @@ pub returns-in_default : goal.returns-in_default
 unfolding tags_after mem
 returns-in_default c =
     let last = c.args.last in
-    let rest = c.in_default.in_default-own.rest in
     rw (
-      ne_eqb last 1 rest.0.0.0.0.1,
-      ne_eqb last 2 rest.0.0.0.1,
-      ne_eqb last 3 rest.0.0.1,
-      ne_eqb last 6 rest.0.1,
-      ne_eqb last 4 rest.1,
+      ne_eqb last 1 (λ e. omega arith),
+      ne_eqb last 2 (λ e. omega arith),
+      ne_eqb last 3 (λ e. omega arith),
+      ne_eqb last 6 (λ e. omega arith),
+      ne_eqb last 4 (λ e. omega arith),
     )

@@ -1,7 +1,6 @@
 -- `field_head` meets its contract: each test is the definition's, on the same bytes, so the first that fails is the same.
 -- Assumes nothing.
 use mathlib.Core.Path.{sym, ◌∙◌}
-use Rattle.policy.proofs.Tests.{fails, passes}
 use Rattle.reader.proofs.Heads.{head_cut, head_tag, head_too_many, head_length, head_short, head_whole}
 use borrow.Author.Rules.{rules}
 use Rattle.reader.proofs.file.field_head.Goals as goal
@@ -16,14 +15,14 @@ returns-then-not-can_stand c =
     let a = c.args in
     λ f last rules.
     head_tag a.file.now a.at a.last a.rules f last rules c.if-left-lt-HEAD_BYTES.false
-    (fails c.can_stand.ensures c.if-not-can_stand.true-raw)
+    (sym c.can_stand.ensures ∙ c.if-not-can_stand.true)
 
 pub returns-then-one_too_many : goal.returns-then-one_too_many
 returns-then-one_too_many c =
     let a = c.args in
     λ f last rules.
     head_too_many a.file.now a.at a.last a.rules f last rules c.if-left-lt-HEAD_BYTES.false
-    (passes c.can_stand.ensures c.if-not-can_stand.false-raw)
+    (sym c.can_stand.ensures ∙ c.if-not-can_stand.false)
     (sym c.one_too_many.ensures ∙ c.if-one_too_many.true)
 
 pub returns-then-not-length_fits : goal.returns-then-not-length_fits
@@ -31,24 +30,24 @@ returns-then-not-length_fits c =
     let a = c.args in
     λ f last rules.
     head_length a.file.now a.at a.last a.rules f last rules c.if-left-lt-HEAD_BYTES.false
-    (passes c.can_stand.ensures c.if-not-can_stand.false-raw)
+    (sym c.can_stand.ensures ∙ c.if-not-can_stand.false)
     (sym c.one_too_many.ensures ∙ c.if-one_too_many.false) c.two_at-size.result c.two_at-size.ensures
-    (fails c.length_fits.ensures c.if-not-length_fits.true-raw)
+    (sym c.length_fits.ensures ∙ c.if-not-length_fits.true)
 
 pub returns-then-left-size : goal.returns-then-left-size
 returns-then-left-size c =
     let a = c.args in
     λ f last rules.
     head_short a.file.now a.at a.last a.rules f last rules c.if-left-lt-HEAD_BYTES.false
-    (passes c.can_stand.ensures c.if-not-can_stand.false-raw)
+    (sym c.can_stand.ensures ∙ c.if-not-can_stand.false)
     (sym c.one_too_many.ensures ∙ c.if-one_too_many.false) c.two_at-size.result c.two_at-size.ensures
-    (passes c.length_fits.ensures c.if-not-length_fits.false-raw) c.if-left-size.true
+    (sym c.length_fits.ensures ∙ c.if-not-length_fits.false) c.if-left-size.true
 
 pub returns : goal.returns
 returns c =
     let a = c.args in
     λ f last rules.
     head_whole a.file.now a.at a.last a.rules f last rules c.if-left-lt-HEAD_BYTES.false
-    (passes c.can_stand.ensures c.if-not-can_stand.false-raw)
+    (sym c.can_stand.ensures ∙ c.if-not-can_stand.false)
     (sym c.one_too_many.ensures ∙ c.if-one_too_many.false) c.two_at-size.result c.two_at-size.ensures
-    (passes c.length_fits.ensures c.if-not-length_fits.false-raw) c.if-left-size.false
+    (sym c.length_fits.ensures ∙ c.if-not-length_fits.false) c.if-left-size.false
