@@ -2,7 +2,6 @@
 use mathlib.Core.List.{[], ◌∷◌}
 use borrow.Author.Tests.{ne_eqb}
 use Rattle.asked.proofs.Letters.{other_length, one_letter}
-use borrow.Author.Rules.{rules}
 use Rattle.asked.proofs.is_letter.Goals as goal
 
 pub returns-then-word-eq1 : goal.returns-then-word-eq1

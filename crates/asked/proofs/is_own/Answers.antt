@@ -1,7 +1,6 @@
 -- `is_own` meets its contract: the word's length, then its letters. Assumes nothing.
 use Rattle.lines.specs.Text.{text}
 use Rattle.asked.proofs.Letters.{other_length, not_o, not_w, the_n}
-use borrow.Author.Rules.{rules}
 use Rattle.asked.proofs.is_own.Goals as goal
 
 pub returns-then-word-ne3 : goal.returns-then-word-ne3

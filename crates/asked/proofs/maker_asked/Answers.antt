@@ -2,7 +2,6 @@
 use mathlib.Core.Path.{sym, ◌∙◌}
 use Rattle.lines.specs.Text.{text}
 use Rattle.asked.specs.Words.{maker_asked}
-use borrow.Author.Rules.{rules}
 use Rattle.asked.proofs.maker_asked.Goals as goal
 
 pub returns-then-is_letter : goal.returns-then-is_letter

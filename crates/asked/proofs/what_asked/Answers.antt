@@ -4,7 +4,6 @@ use mathlib.Core.Bool.{false}
 use Rattle.policy.specs.Lists.{same}
 use Rattle.lines.specs.Text.{text}
 use Rattle.asked.specs.Words.{what_asked}
-use borrow.Author.Rules.{rules}
 use Rattle.asked.proofs.what_asked.Goals as goal
 use Rattle.asked.proofs.what_asked.Goals.{Else-is_letter, Else-is_letter-2}
 

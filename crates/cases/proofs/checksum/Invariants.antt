@@ -1,5 +1,4 @@
 -- `checksum` is safe and ends: each turn takes one more byte. Assumes nothing.
-use borrow.Author.Rules.{rules}
 use Prim.Native.Nat.{◌-◌}
 use lib.ListN.{length}
 use Rattle.cases.proofs.checksum.Given as goal

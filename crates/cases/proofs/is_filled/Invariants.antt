@@ -1,5 +1,4 @@
 -- `is_filled` is safe and ends: each turn takes one more byte. Assumes nothing.
-use borrow.Author.Rules.{rules}
 use Prim.Native.Nat.{◌-◌}
 use lib.ListN.{length}
 use Rattle.cases.proofs.is_filled.Given as goal

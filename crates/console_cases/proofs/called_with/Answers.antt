@@ -1,5 +1,4 @@
 -- `called_with` is safe: a part of the room is lent only where the room has so many bytes. Assumes nothing.
-use borrow.Author.Rules.{rules}
 use native.Mathlib.Omega.{arith}
 use lib.ListN.{length-take}
 use Rattle.console_cases.proofs.called_with.Goals as goal

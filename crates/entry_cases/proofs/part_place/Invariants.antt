@@ -1,5 +1,4 @@
 -- `part_place` is safe and ends: each turn passes over one more part. Assumes nothing.
-use borrow.Author.Rules.{rules}
 use Prim.Native.Nat.{◌-◌}
 use Rattle.entry_cases.proofs.part_place.Given as goal
 

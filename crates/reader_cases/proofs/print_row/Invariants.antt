@@ -1,5 +1,4 @@
 -- `print_row` is safe and ends: each turn leaves less of the row. Assumes nothing.
-use borrow.Author.Rules.{rules}
 use Prim.Native.Nat.{◌-◌}
 use lib.ListN.{length}
 use Rattle.reader_cases.proofs.print_row.Given as goal

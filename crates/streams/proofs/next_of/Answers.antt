@@ -1,5 +1,4 @@
 -- `next_of` meets its contract, case by case. Assumes nothing.
-use borrow.Author.Rules.{rules}
 use Rattle.streams.proofs.next_of.Goals as goal
 
 pub returns-in-Bytes : goal.returns-in-Bytes

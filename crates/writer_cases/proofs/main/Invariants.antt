@@ -1,5 +1,4 @@
 -- `main` is safe and ends: each turn takes one more argument. Assumes nothing.
-use borrow.Author.Rules.{rules}
 use Prim.Native.Nat.{◌-◌}
 use Rattle.writer_cases.proofs.main.Given as goal
 

@@ -1,5 +1,4 @@
 -- `tried` is safe: a place has at most 65,535 bytes, and the room has 65,536. Assumes nothing.
-use borrow.Author.Rules.{rules}
 use native.Mathlib.Omega.{arith}
 use lib.ListN.{length-take}
 use Rattle.writer_cases.proofs.tried.Goals as goal
