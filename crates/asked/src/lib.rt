@@ -8,6 +8,10 @@ ghost use Rattle.lines.specs.Text.{text};
 ghost use Rattle.asked.specs.Words.{maker_asked, what_asked};
 
 use console::Maker;
+use std::env::{Env, FillError};
+
+// Room for a word of the call; a longer one is taken for an empty one.
+pub const WORD_ROOM: usize = 4096;
 
 // A maker, or another word.
 #[derive(Clone, Copy)]
@@ -23,6 +27,12 @@ pub enum WhatAsked {
     Two,
     Own,
     Other,
+}
+
+// Whether the call has a word at this place; the program's own name is at 0.
+pub fn has_word<R: Env>(rt: &R, at: usize) -> bool {
+    let mut word = [0u8; WORD_ROOM];
+    !matches!(rt.arg(at, &mut word), Err(FillError::NotPresent))
 }
 
 // Whether a word is this one letter.

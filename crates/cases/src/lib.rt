@@ -14,9 +14,7 @@ use std::env::{Env, FillError};
 use std::fs;
 use std::io::Read;
 use std::rt::Files;
-
-// The most bytes of a file that a program reads.
-pub const MOST_READ: usize = 65536;
+pub use streams::MOST_READ;
 
 // Room for an argument; a longer one is taken for an empty one.
 pub const NAME_ROOM: usize = 4096;
@@ -43,8 +41,7 @@ pub fn argument_count<R: Env>(rt: &R) -> usize {
 
 // Puts the i-th argument at the start of `name`; its length, 0 where there is none.
 pub fn argument<R: Env>(rt: &R, i: usize, name: &mut [u8]) -> usize
-    ensures inside { result ≤ length name.new }
-    ensures whole { result ≡ length (take result name.new) }
+    ensures { result ≤ length name.new }
 {
     rt.arg(i, name).unwrap_or(0)
 }

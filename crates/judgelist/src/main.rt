@@ -2,11 +2,8 @@
 
 #![tactic(auto)]
 
-use listing::judge_text;
-use streams::{Input, first, print, print_unreadable, read_input};
-
-// The most bytes of a file that are read, and of a text that is printed.
-const MOST_READ: usize = 65536;
+use listing::{MOST_TEXT, judge_text};
+use streams::{Input, MOST_READ, first, print, print_unreadable, read_input};
 
 fn main(rt: HostRuntime) {
     let mut file = [0u8; MOST_READ];
@@ -15,7 +12,7 @@ fn main(rt: HostRuntime) {
         print_unreadable(&rt);
         return;
     };
-    let mut place = [0u8; MOST_READ];
+    let mut place = [0u8; MOST_TEXT];
     let written = judge_text(first(&file, n), &mut place);
     print(&rt, &place, written);
 }

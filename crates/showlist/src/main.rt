@@ -3,10 +3,7 @@
 #![tactic(auto)]
 
 use showing::{MOST_SHOWN, show_text};
-use streams::{Input, first, print, print_unreadable, read_input};
-
-// The most bytes of a file that are read.
-const MOST_READ: usize = 65536;
+use streams::{Input, MOST_READ, first, print, print_unreadable, read_input};
 
 fn main(rt: HostRuntime) {
     let mut file = [0u8; MOST_READ];

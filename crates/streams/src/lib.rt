@@ -10,6 +10,9 @@ use lines::outcomes::put_refused;
 use std::io;
 use std::io::Read;
 
+// The most bytes of an input that the programs read; `fromiptables` alone reads more.
+pub const MOST_READ: usize = 65536;
+
 // Room for a refusal's line.
 const LINE_ROOM: usize = 4096;
 

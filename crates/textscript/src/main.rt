@@ -2,24 +2,12 @@
 
 #![tactic(auto)]
 
-use asked::{MakerAsked, WhatAsked, maker_asked, what_asked};
+use asked::{MakerAsked, WORD_ROOM, WhatAsked, has_word, maker_asked, what_asked};
 use console::Maker;
 use console_reader::{MOST_FIELD, text_script};
 use policy::Command;
-use std::env::{Env, FillError};
-use streams::{Input, first, print_answer, print_unreadable, print_whole, read_input};
-
-// The most bytes of a text that are read.
-const MOST_READ: usize = 65536;
-
-// Room for a word of the call.
-const WORD_ROOM: usize = 4096;
-
-// Whether the call has a word at this place; the program's own name is at 0.
-fn has_word<R: Env>(rt: &R, at: usize) -> bool {
-    let mut word = [0u8; WORD_ROOM];
-    !matches!(rt.arg(at, &mut word), Err(FillError::NotPresent))
-}
+use std::env::Env;
+use streams::{Input, MOST_READ, first, print_answer, print_unreadable, print_whole, read_input};
 
 // The maker that the call names.
 fn called_maker<R: Env>(rt: &R) -> MakerAsked {
