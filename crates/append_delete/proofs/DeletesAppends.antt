@@ -15,7 +15,6 @@ use Rattle.policy.specs.AppendDelete.{kept_run, plan_one}
 use Rattle.policy.specs.Lists.{mem, missing, pick}
 use Rattle.policy.specs.Properties.{In, Distinct}
 use Rattle.policy.specs.Command.{coded}
-use Rattle.policy.specs.declared.Command.{Command}
 use Rattle.policy.specs.declared.Command.TheVariants.{App, DelRule}
 use Rattle.policy.proofs.AppendDelete.{kept_run_front, plan_one_count}
 use Rattle.deployment.specs.Values.{coded_bytes}

@@ -1,9 +1,9 @@
 -- Words letter by letter: one of another length is another word, and of the same length the letters decide. Assumes nothing.
 use Prim.Native.Nat.{ℕ, suc}
 use native.Mathlib.Omega.{arith}
-use mathlib.Core.Path.{◌≡◌, refl, sym, ap}
+use mathlib.Core.Path.{◌≡◌, refl, ap}
 use mathlib.Core.Logic.{◌≢◌}
-use mathlib.Core.Bool.{true, false, ◌&&◌, and-false, and-true}
+use mathlib.Core.Bool.{false, ◌&&◌, and-false, and-true}
 use mathlib.Core.List.{List, [], ◌∷◌}
 use borrow.Author.Tests.{ne_eqb}
 use lib.ListN.{length, get_or}

@@ -1,7 +1,6 @@
 -- The entry that reads console text, by its contract as the checker reads it: any two answers that it allows are equal, with every byte of the place; the
 -- place is kept where it turns away, each number is answered exactly when the text gives it, and the text of a script comes back as its field. Assumes
 -- nothing.
-use Prim.Native.Nat.{ℕ}
 use mathlib.Core.Path.{◌≡◌, ◌∙◌}
 use Rattle.deployment.specs.Values.{Script, script_bytes}
 use Rattle.deployment.specs.File.{field_bytes, script_tag}

@@ -13,7 +13,7 @@ use Rattle.policy.specs.declared.Action.{Action}
 use Rattle.policy.specs.declared.Action.TheVariants.{Deny, Permit}
 use Rattle.policy.specs.declared.Decision.{Decision}
 use Rattle.policy.specs.declared.Flow.{Flow}
-use Rattle.deployment.specs.Checked.{Checked, good, bad, ◌>>=◌}
+use Rattle.deployment.specs.Checked.{Checked, good, bad}
 use Rattle.deployment.specs.Bytes.{part, chunks}
 use Rattle.deployment.specs.Values.{rule_width, rule_of, numbers_of}
 use Rattle.deployment.specs.Catalogue.{record_count, records_of, catalogue_of}

@@ -27,7 +27,7 @@ use Rattle.deployment.proofs.Lent.{for_contents}
 use Rattle.catalogue.specs.Answers.{checking}
 use Rattle.values.specs.Answers.{there, given, values_given}
 use Rattle.reader.specs.Answers.{value_at, shown, file_read}
-use Rattle.reader.specs.Claims.{ListStands, ScriptStands}
+use Rattle.reader.specs.Claims.{ListStands}
 use Rattle.reader.specs.declared.Span.{Span}
 use Rattle.reader.specs.declared.Layout.{Layout}
 use Rattle.reader.specs.declared.FileRead.{FileRead}

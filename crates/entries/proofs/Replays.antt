@@ -15,7 +15,7 @@ use Rattle.deployment.specs.Values.{Script, rule_width, numbers_bytes, script_by
 use Rattle.deployment.specs.Catalogue.{record_count}
 use Rattle.deployment.specs.Contents.{Contents}
 use Rattle.deployment.specs.File.{read_to_judge}
-use Rattle.deployment.specs.FieldValues.{catalogue_value, policy_value, script_value, Left, left_by, left_alone}
+use Rattle.deployment.specs.FieldValues.{policy_value, script_value, Left, left_by, left_alone}
 use Rattle.deployment.specs.Properties.{AreBytes, Listed, Scripted}
 use Rattle.deployment.specs.declared.Why.{Why}
 use Rattle.deployment.proofs.Lent.{for_contents}

@@ -1,8 +1,6 @@
 -- Phrases: what is put by one is what its words say. Assumes nothing.
-use Rattle.std.proofs.Common.{◌≡◌, ℕ, true, false, cond, not, List, [], ◌++◌, take, refl}
-use mathlib.Core.Option.{none, some}
+use Rattle.std.proofs.Common.{◌≡◌, ℕ, true, false, not, [], ◌++◌, take, refl}
 use borrow.Author.Tests.{not-true, not-false}
-use Rattle.policy.specs.Command.{coded}
 use Rattle.policy.specs.declared.Command.{Command}
 use Rattle.console.specs.Makers.{worded}
 use Rattle.console.specs.declared.Maker.{Maker}

@@ -1,6 +1,6 @@
 -- No text is longer than the longest one. The idea: a refusal's position is inside the file, a verdict's step is one of the script's commands
 -- and its place one of a running list, so all numbers have at most twenty digits; plans have at most 1,024 lines each. Assumes nothing.
-use Prim.Native.Nat.{ℕ, suc, ◌^◌, ◌≤◌, ◌<◌}
+use Prim.Native.Nat.{ℕ, ◌^◌, ◌≤◌, ◌<◌}
 use native.Mathlib.Omega.{arith}
 use mathlib.Core.Path.{◌≡◌, refl, ap}
 use mathlib.Core.List.{List, [], ◌∷◌}
@@ -22,8 +22,7 @@ use Rattle.deployment.specs.declared.Why.TheVariants.{NoScript}
 use Rattle.deployment.proofs.Values.{by_option, none_some}
 use Rattle.deployment.proofs.Reader.{written_again}
 use Rattle.replay.specs.Answers.{commands_of}
-use Rattle.lines.specs.Text.{spaced_all, refused_text, verdict_text}
-use Rattle.lines.specs.Printing.{IsFile}
+use Rattle.lines.specs.Text.{spaced_all}
 use Rattle.lines.proofs.Lengths.{one_more, none_yet, refused_short, verdict_short, position_inside}
 use Rattle.listing.specs.Text.{plan_printed, judge_printed}
 use Rattle.listing.specs.Printing.{most_text}

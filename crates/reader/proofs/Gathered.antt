@@ -8,9 +8,8 @@ use mathlib.Core.List.{List, [], ◌∷◌, ◌++◌, map, append_assoc, append-
 use mathlib.Core.Option.{Option, none, some}
 use lib.ListN.{length, length-append}
 use Rattle.policy.specs.Rule.{Rule}
-use Rattle.policy.specs.declared.Action.{Action}
 use Rattle.deployment.specs.Bytes.{joined}
-use Rattle.deployment.specs.Values.{Script, rule_bytes, numbers_bytes, default_bytes, default_field, script_bytes}
+use Rattle.deployment.specs.Values.{rule_bytes, numbers_bytes, default_bytes, default_field, script_bytes}
 use Rattle.deployment.specs.Contents.{Contents}
 use Rattle.deployment.specs.File.{accepted, read_file}
 use Rattle.deployment.specs.Properties.{AreBytes, IfThere}

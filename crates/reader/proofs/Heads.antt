@@ -13,7 +13,7 @@ use Rattle.policy.specs.Lists.{mem}
 use Rattle.policy.specs.Policy.{most_rules}
 use Rattle.policy.proofs.Tests.{by_test}
 use Rattle.deployment.specs.Bytes.{number, part, number_at}
-use Rattle.deployment.specs.File.{Fields, Field, tags_after, last_tag, length_fits, field_read, rule_tag}
+use Rattle.deployment.specs.File.{Fields, tags_after, last_tag, length_fits, field_read, rule_tag}
 use Rattle.deployment.specs.Properties.{tag_of, size_of}
 use Rattle.deployment.specs.declared.Why.TheVariants.{Cut, Tag, Length, TooMany}
 use Rattle.deployment.proofs.Bytes.{length_part}

@@ -1,6 +1,6 @@
 -- Where values stand in a file: the part at each place is the value that was written there, and the catalogue is read from the
 -- file's first bytes. The idea: a file is pieces one after another, and a place counts the bytes before its piece. Assumes nothing.
-use Prim.Native.Nat.{ℕ, ◌+◌, ◌*◌, ◌-◌, ◌/◌, ◌≤◌, min}
+use Prim.Native.Nat.{ℕ, ◌+◌, ◌*◌, ◌-◌, ◌/◌, min}
 use native.Mathlib.Nat.{zero-add, suc-add}
 use native.Mathlib.Omega.{arith}
 use mathlib.Core.Path.{◌≡◌, refl, sym, ◌∙◌, ap}
@@ -10,7 +10,7 @@ use lib.Dec.{leb}
 use borrow.Author.Tests.{leb-true, leb-false}
 use Rattle.policy.proofs.Tests.{by_test}
 use lib.ListN.{length, take, drop, length-append, length-drop, length-map, drop_of_length-le}
-use lib.Seq.{take_all, take-nil, drop-length, take_at, drop_at, drop-append-add}
+use lib.Seq.{take_all, take-nil, take_at, drop_at, drop-append-add}
 use Rattle.policy.specs.Rule.{Rule}
 use Rattle.policy.specs.declared.Action.{Action}
 use Rattle.deployment.specs.Bytes.{bytes_of, part, chunks, joined}

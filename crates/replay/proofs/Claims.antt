@@ -3,18 +3,15 @@
 use Prim.Native.Nat.{ℕ, min}
 use native.Mathlib.Omega.{arith}
 use mathlib.Core.Path.{◌≡◌, refl, sym, ◌∙◌, ap, subst}
-use mathlib.Core.Logic.{inl, inr, ⊎_elim}
+use mathlib.Core.Logic.{inl, inr}
 use mathlib.Core.List.{List, [], ◌∷◌}
 use mathlib.Core.Option.{Option, some}
 use lib.ListN.{length}
-use Rattle.policy.specs.Command.{step, fault_number}
+use Rattle.policy.specs.Command.{fault_number}
 use Rattle.policy.specs.Replay.{Replayed, ended, broken, replay}
-use Rattle.policy.specs.declared.Command.{Command}
-use Rattle.policy.specs.declared.Fault.{Fault}
 use Rattle.policy.proofs.Numbers.{fault_numbers_differ}
 use Rattle.policy.proofs.Commands.{fails_with}
 use Rattle.policy.proofs.Replay.{replay_is_leads, breaks_replays, replays_breaks}
-use Rattle.running.specs.Running.{given}
 use Rattle.running.specs.Claims.{ByNumber}
 use Rattle.running.proofs.Claims.{given_by_number}
 use Rattle.deployment.specs.Checked.{Checked, good, bad, why_number}
@@ -22,7 +19,7 @@ use Rattle.deployment.specs.Values.{Script}
 use Rattle.deployment.specs.FieldValues.{policy_value, script_value}
 use Rattle.deployment.specs.declared.Why.{Why}
 use Rattle.deployment.proofs.Numbers.{why_numbers_differ}
-use Rattle.replay.specs.Answers.{ending_numbers, Outcome, stopped, outcome_of, commands_of, replayed}
+use Rattle.replay.specs.Answers.{ending_numbers, stopped, outcome_of, commands_of, replayed}
 use Rattle.replay.specs.Claims.{EndingNumbersDiffer, TurnsAway, Replays, ReplayedByNumber, StepByNumber}
 use Rattle.replay.specs.Stepping.{step_left, settled}
 use Rattle.replay.specs.declared.Ending.TheVariants.{Ended, Broken, Turned}

@@ -2,7 +2,6 @@
 use Prim.Native.Nat.{ℕ, zero, suc, min, ◌<◌}
 use native.Mathlib.Omega.{arith}
 use mathlib.Core.Path.{◌≡◌, refl, ap}
-use mathlib.Core.Bool.{true}
 use lib.IntN.{pos, negsuc}
 use borrow.Author.Tests.{ltb-true}
 use Rattle.streams.specs.Reading.{brought, next_of}

@@ -1,14 +1,13 @@
 -- How a list names rules, by number: its two tests say the properties. Assumes nothing.
-use Prim.Native.Nat.{ℕ, ◌<◌}
+use Prim.Native.Nat.{ℕ}
 use native.Mathlib.Omega.{arith}
-use mathlib.Core.Path.{◌≡◌, refl, ap}
-use mathlib.Core.Bool.{true, false}
-use mathlib.Core.List.{List, [], ◌∷◌}
+use mathlib.Core.Path.{refl, ap}
+use mathlib.Core.List.{List}
 use borrow.Author.Tests.{ltb-true}
 use lib.Dec.{ltb}
-use lib.ListN.{length, get_or}
+use lib.ListN.{get_or}
 use Rattle.policy.specs.Lists.{all, differ}
-use Rattle.policy.specs.Properties.{In, Distinct}
+use Rattle.policy.specs.Properties.{Distinct}
 use Rattle.policy.specs.Claims.{Admitted}
 use Rattle.policy.proofs.Tests.{by_test}
 use Rattle.policy.proofs.Lists.{all_in}

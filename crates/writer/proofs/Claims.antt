@@ -1,7 +1,7 @@
 -- The writer's claims. The idea: the fields of contents are those of their field values, one by one. Assumes nothing.
 use Prim.Native.Nat.{ℕ, ◌/◌}
 use native.Mathlib.Omega.{arith}
-use mathlib.Core.Path.{◌≡◌, refl, sym, ◌∙◌, ap}
+use mathlib.Core.Path.{◌≡◌, refl, sym, ap}
 use mathlib.Core.Bool.{Bool, true, false}
 use mathlib.Core.List.{List, [], ◌∷◌, map, append_assoc}
 use mathlib.Core.Option.{Option, none, some}

@@ -1,12 +1,12 @@
 -- `kept_run` meets its contract. The invariant: what is kept so far, and what is kept of the rest of the two policies, is what is kept of
 -- the whole. The measure is the number of rules left. Assumes nothing.
-use Prim.Native.Nat.{◌-◌, ◌≤◌, ◌<◌}
-use mathlib.Core.Path.{◌≡◌, sym, ◌∙◌}
+use Prim.Native.Nat.{◌<◌}
+use mathlib.Core.Path.{sym, ◌∙◌}
 use native.Mathlib.Omega.{arith}
 use borrow.Author.Rules.{rules}
 use lib.ListN.{length}
 use Rattle.deployment.specs.Values.{numbers_of}
-use Rattle.append_delete.proofs.DeletesAppends.{Found, found_none, found_one, found_another, found_enough, found_all}
+use Rattle.append_delete.proofs.DeletesAppends.{found_none, found_one, found_another, found_enough, found_all}
 use Rattle.append_delete.proofs.kept_run.Goals.{then-kept-wanted+then-number_at, then-kept-wanted+else-number_at, else-kept-wanted}
 use Rattle.append_delete.proofs.kept_run.Goals as goal
 

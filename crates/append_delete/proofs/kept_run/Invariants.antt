@@ -1,11 +1,8 @@
-use Prim.Native.Nat.{◌-◌, ◌≤◌, ◌<◌}
-use mathlib.Core.Path.{◌≡◌, sym, ◌∙◌}
-use mathlib.Core.Logic.{⊎_elim}
-use native.Mathlib.Omega.{arith}
-use borrow.Author.Rules.{rules}
+use Prim.Native.Nat.{◌-◌, ◌≤◌}
+use mathlib.Core.Path.{◌≡◌}
 use lib.ListN.{length}
 use Rattle.deployment.specs.Values.{numbers_of}
-use Rattle.append_delete.proofs.DeletesAppends.{Found, found_none, found_one, found_another, found_enough, found_all}
+use Rattle.append_delete.proofs.DeletesAppends.{Found}
 use Rattle.append_delete.proofs.kept_run.Given as goal
 
 abbrev pub invariant-loop-i : goal.invariant-loop-i

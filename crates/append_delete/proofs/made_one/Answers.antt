@@ -1,7 +1,6 @@
 -- `made_one` meets its contract: the run that is kept is marked, the deletes and the appends are sent, and the head makes a field of them.
 -- Assumes nothing.
 use Rattle.append_delete.proofs.DeletesAppends.{kept_inside, plan_few, plan_placed}
-use borrow.Author.Rules.{rules}
 use Rattle.append_delete.proofs.made_one.Goals as goal
 
 pub marked-marks-requires : goal.marked-marks-requires

@@ -1,12 +1,10 @@
 -- `marked` meets its contract. The invariant: the marks are those of the rules gone through. The measure is the number of rules left.
 -- Assumes nothing.
-use Prim.Native.Nat.{◌-◌, ◌≤◌, ◌<◌}
+use Prim.Native.Nat.{◌<◌}
 use mathlib.Core.Path.{◌≡◌, refl}
 use native.Mathlib.Omega.{arith}
-use borrow.Author.Rules.{rules}
-use lib.ListN.{length, take, length-set}
+use lib.ListN.{length, length-set}
 use Rattle.deployment.specs.Values.{numbers_of}
-use Rattle.plans.specs.Marked.{Marked}
 use Rattle.plans.proofs.Marked.{marks_none}
 use Rattle.append_delete.proofs.DeletesAppends.{marks_one, marks_out}
 use Rattle.append_delete.proofs.marked.Goals.{then-r-lt-MOST_RULES, else-r-lt-MOST_RULES}

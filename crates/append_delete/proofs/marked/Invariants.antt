@@ -1,13 +1,8 @@
-use Prim.Native.Nat.{◌-◌, ◌≤◌, ◌<◌}
-use mathlib.Core.Path.{◌≡◌, refl}
-use mathlib.Core.Logic.{⊎_elim}
-use native.Mathlib.Omega.{arith}
-use borrow.Author.Rules.{rules}
-use lib.ListN.{length, take, length-set}
+use Prim.Native.Nat.{◌-◌, ◌≤◌}
+use mathlib.Core.Path.{◌≡◌}
+use lib.ListN.{length, take}
 use Rattle.deployment.specs.Values.{numbers_of}
 use Rattle.plans.specs.Marked.{Marked}
-use Rattle.plans.proofs.Marked.{marks_none}
-use Rattle.append_delete.proofs.DeletesAppends.{marks_one, marks_out}
 use Rattle.append_delete.proofs.marked.Given as goal
 
 abbrev pub invariant-loop-i : goal.invariant-loop-i

@@ -1,6 +1,5 @@
 -- `plan_one` meets its contract: the plan is made in a place of its own, and its field is sent. Assumes nothing.
 use mathlib.Core.Path.{◌∙◌}
-use borrow.Author.Rules.{rules}
 use Rattle.plans.proofs.LentPlace.{plan_inside, plan_sent}
 use Rattle.append_delete.proofs.plan_one.Goals as goal
 

@@ -1,11 +1,9 @@
 -- `send_appends` meets its contract. The invariant: the rules of the rest before index j are sent. The measure is the number of rules left.
 -- Assumes nothing.
-use Prim.Native.Nat.{◌-◌}
 use mathlib.Core.Path.{sym, ◌∙◌}
 use native.Mathlib.Omega.{arith}
-use borrow.Author.Rules.{rules}
 use Rattle.deployment.specs.Values.{numbers_of}
-use Rattle.append_delete.proofs.DeletesAppends.{Appending, appending_none, appending_one, appending_all}
+use Rattle.append_delete.proofs.DeletesAppends.{appending_none, appending_one, appending_all}
 use Rattle.append_delete.proofs.send_appends.Goals as goal
 
 pub loop-j-init : goal.loop-j-init

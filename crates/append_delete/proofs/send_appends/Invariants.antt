@@ -1,9 +1,6 @@
 use Prim.Native.Nat.{◌-◌}
-use mathlib.Core.Path.{sym, ◌∙◌}
-use native.Mathlib.Omega.{arith}
-use borrow.Author.Rules.{rules}
 use Rattle.deployment.specs.Values.{numbers_of}
-use Rattle.append_delete.proofs.DeletesAppends.{Appending, appending_none, appending_one, appending_all}
+use Rattle.append_delete.proofs.DeletesAppends.{Appending}
 use Rattle.append_delete.proofs.send_appends.Given as goal
 
 abbrev pub invariant-loop-j : goal.invariant-loop-j

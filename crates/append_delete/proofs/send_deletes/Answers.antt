@@ -1,10 +1,8 @@
 -- `send_deletes` meets its contract. The invariant: the last k rules are gone through, and those of them that are not marked are sent, last to
 -- first. The measure is the number of rules left. Assumes nothing.
-use Prim.Native.Nat.{◌-◌}
 use native.Mathlib.Omega.{arith}
-use borrow.Author.Rules.{rules}
 use Rattle.deployment.specs.Values.{numbers_of}
-use Rattle.append_delete.proofs.DeletesAppends.{Deleting, deleting_none, deleting_one, deleting_next, deleting_all, inside_at}
+use Rattle.append_delete.proofs.DeletesAppends.{deleting_none, deleting_one, deleting_next, deleting_all, inside_at}
 use Rattle.append_delete.proofs.send_deletes.Goals.{then-not-marks-r, else-not-marks-r}
 use Rattle.append_delete.proofs.send_deletes.Goals as goal
 

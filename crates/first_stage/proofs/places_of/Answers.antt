@@ -1,8 +1,5 @@
 -- `places_of` numbers the rules of a list in an array of none. Assumes nothing.
 use mathlib.Core.Path.{◌∙◌, ap}
-use mathlib.Core.List.{List}
-use Prim.Native.Nat.{ℕ}
-use borrow.Author.Rules.{rules}
 use Rattle.running.specs.Running.{view}
 use Rattle.places.specs.Places.{renumbered}
 use Rattle.first_stage.proofs.places_of.Goals as goal

@@ -1,12 +1,11 @@
 -- `seek` finds a rule behind those before it. The loop's invariant: from index k on as many stand before it as are left of those that stand
 -- before it from the start on; the measure is what is left of the list's length. Assumes nothing.
-use Prim.Native.Nat.{◌-◌, ◌≤◌, ◌<◌}
+use Prim.Native.Nat.{◌<◌}
 use native.Mathlib.Omega.{arith}
 use mathlib.Core.Path.{refl, sym, ◌∙◌}
-use borrow.Author.Rules.{rules}
 use borrow.Author.Tests.{eq-eqb, ne_eqb}
 use lib.Dec.{eqb}
-use lib.ListN.{length, take}
+use lib.ListN.{length}
 use Rattle.running.specs.Running.{view}
 use Rattle.running.proofs.Edits.{view_count, view_fits}
 use Rattle.first_stage.proofs.Looking.{rule_shown, Seeking, seek_past, seek_here, seek_ends}

@@ -1,13 +1,7 @@
-use Prim.Native.Nat.{◌-◌, ◌≤◌, ◌<◌}
-use native.Mathlib.Omega.{arith}
-use mathlib.Core.Path.{refl, sym, ◌∙◌}
-use borrow.Author.Rules.{rules}
-use borrow.Author.Tests.{eq-eqb, ne_eqb}
+use Prim.Native.Nat.{◌-◌, ◌≤◌}
 use lib.Dec.{eqb}
-use lib.ListN.{length, take}
-use Rattle.running.specs.Running.{view}
-use Rattle.running.proofs.Edits.{view_count, view_fits}
-use Rattle.first_stage.proofs.Looking.{rule_shown, Seeking, seek_past, seek_here, seek_ends}
+use lib.ListN.{take}
+use Rattle.first_stage.proofs.Looking.{Seeking}
 use Rattle.first_stage.proofs.seek.Given as goal
 
 abbrev pub invariant-loop-k : goal.invariant-loop-k

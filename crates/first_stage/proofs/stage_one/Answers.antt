@@ -1,10 +1,8 @@
 -- `stage_one` does what the definition does in the first stage. The loop's invariant is `Turn`: the list stands for two halves from which the
 -- rest of the target leads to the same end, and the commands so far are sent. The measure is what is left of the target. Assumes nothing.
-use Prim.Native.Nat.{ℕ, ◌-◌, ◌<◌}
+use Prim.Native.Nat.{◌<◌}
 use native.Mathlib.Omega.{arith}
 use mathlib.Core.Path.{◌≡◌, refl, sym, ◌∙◌}
-use mathlib.Core.List.{List}
-use borrow.Author.Rules.{rules}
 use lib.ListN.{length, take, get_or}
 use lib.Seq.{get_or-take}
 use Rattle.policy.proofs.Lists.{place_in_lem}

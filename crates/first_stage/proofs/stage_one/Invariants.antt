@@ -1,20 +1,11 @@
-use Prim.Native.Nat.{ℕ, ◌-◌, ◌<◌}
-use native.Mathlib.Omega.{arith}
-use mathlib.Core.Path.{◌≡◌, refl, sym, ◌∙◌}
+use Prim.Native.Nat.{ℕ, ◌-◌}
+use mathlib.Core.Path.{◌≡◌}
 use mathlib.Core.List.{List}
-use borrow.Author.Rules.{rules}
-use lib.ListN.{length, take, get_or}
-use lib.Seq.{get_or-take}
-use Rattle.policy.proofs.Lists.{place_in_lem}
-use Rattle.policy.proofs.Order.{sublist_distinct}
+use lib.ListN.{take}
 use Rattle.policy.proofs.Front.{Given}
 use Rattle.running.specs.Running.{view}
 use Rattle.places.specs.Places.{Says}
-use Rattle.running.proofs.Edits.{view_count}
-use Rattle.first_stage.proofs.Looking.{rule_shown}
-use Rattle.first_stage.proofs.ByPlace.{places_say, place_tells}
-use Rattle.plans.proofs.Marked.{marks_none}
-use Rattle.first_stage.proofs.FirstStage.{Turn, turn_first, turn_length, turn_more, turn_last}
+use Rattle.first_stage.proofs.FirstStage.{Turn}
 use Rattle.first_stage.proofs.stage_one.Given as goal
 
 abbrev pub invariant-loop-j : goal.invariant-loop-j

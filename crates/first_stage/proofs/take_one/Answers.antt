@@ -3,7 +3,6 @@
 use Prim.Native.Nat.{◌≤◌, ◌<◌}
 use native.Mathlib.Omega.{arith}
 use mathlib.Core.Path.{◌≡◌, refl, sym, ◌∙◌}
-use borrow.Author.Rules.{rules}
 use lib.ListN.{length}
 use lib.Dec.{eqb}
 use Rattle.running.specs.Running.{view}

@@ -2,7 +2,6 @@
 -- Assumes nothing.
 use native.Mathlib.Omega.{arith}
 use mathlib.Core.Path.{◌≡◌, ◌∙◌, ap, ap₂}
-use borrow.Author.Rules.{rules}
 use lib.ListN.{length}
 use lib.Seq.{take_all}
 use Rattle.policy.specs.InsertDeleteMove.{own_choice, kept_two}

@@ -1,12 +1,11 @@
 -- `own_choice` keeps what the definition keeps. The loop's invariant: the rules kept so far, with the choice among the rest of the target
 -- behind the last place kept, are the whole choice; no more are kept than are passed. Assumes nothing.
-use Prim.Native.Nat.{ℕ, ◌-◌, ◌≤◌, ◌<◌}
+use Prim.Native.Nat.{ℕ, ◌<◌}
 use native.Mathlib.Omega.{arith}
 use mathlib.Core.Path.{◌≡◌, refl, ◌∙◌, ap}
 use mathlib.Core.List.{List}
 use borrow.Author.Rules.{rules}
 use lib.ListN.{length, take, get_or, length-set}
-use Rattle.policy.specs.Properties.{Distinct}
 use Rattle.running.specs.Running.{view}
 use Rattle.running.specs.Place.{place_in}
 use Rattle.places.specs.Places.{Says}
@@ -14,7 +13,7 @@ use Rattle.running.proofs.Edits.{view_count, view_fits}
 use Rattle.policy.proofs.Lists.{place_in_lem}
 use Rattle.first_stage.proofs.ByPlace.{places_say}
 use Rattle.first_stage.proofs.Looking.{rule_shown}
-use Rattle.insert_delete_move.proofs.OwnChoice.{Chosen, choice_ends, choice_keeps, choice_passes}
+use Rattle.insert_delete_move.proofs.OwnChoice.{choice_ends, choice_keeps, choice_passes}
 use Rattle.insert_delete_move.proofs.own_choice.Goals as goal
 use Rattle.insert_delete_move.proofs.own_choice.Goals.{After-place_of-place, In-loop-i, then-last-place, else-last-place}
 

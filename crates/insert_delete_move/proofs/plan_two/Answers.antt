@@ -1,6 +1,5 @@
 -- `plan_two` meets its contract: the plan is made in a place of its own, and its field is sent. Assumes nothing.
 use mathlib.Core.Path.{◌∙◌}
-use borrow.Author.Rules.{rules}
 use Rattle.deployment.specs.Values.{numbers_of}
 use Rattle.plans.specs.Plans.{made_two_of, keep_of}
 use Rattle.plans.proofs.LentPlace.{plan_inside, plan_sent}

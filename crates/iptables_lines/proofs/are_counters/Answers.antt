@@ -3,7 +3,6 @@ use mathlib.Core.Path.{sym, ◌∙◌}
 use borrow.Author.Tests.{eq-eqb, ne_eqb}
 use Rattle.deployment.specs.Bytes.{part}
 use Rattle.iptables_lines.proofs.Names.{too_short, not_opened, not_closed, in_brackets}
-use borrow.Author.Rules.{rules}
 use Rattle.iptables_lines.proofs.are_counters.Goals as goal
 use Rattle.iptables_lines.proofs.are_counters.Goals.{then-size-lt2-via-then-size-lt2, then-size-lt2-via-else-size-lt2+then-word-ne-OPENING, then-size-lt2-via-else-size-lt2+else-word-ne-OPENING+then-word-size-ne-CLOSING}
 

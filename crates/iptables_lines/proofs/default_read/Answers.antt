@@ -4,7 +4,6 @@ use native.Mathlib.Omega.{arith}
 use mathlib.Core.Path.{◌≡◌, sym, ◌∙◌}
 use mathlib.Core.List.{List}
 use lib.ListN.{length, take, drop}
-use Rattle.policy.proofs.Tests.{fails, passes}
 use Rattle.deployment.specs.Bytes.{part}
 use Rattle.deployment.proofs.Records.{part_to_end}
 use Rattle.iptables.specs.Options.{target_of}

@@ -1,7 +1,6 @@
 -- `is_number` meets its contract: a number is held, or the word is none. Assumes nothing.
 use mathlib.Core.Path.{◌∙◌, ap}
 use Rattle.iptables_lines.proofs.Names.{is_held, held_number}
-use borrow.Author.Rules.{rules}
 use Rattle.iptables_lines.proofs.is_number.Goals as goal
 
 pub returns-in-Is : goal.returns-in-Is

@@ -9,7 +9,6 @@ use Rattle.lines.specs.Text.{text}
 use Rattle.iptables.specs.Words.{starts_with}
 use Rattle.iptables_lines.specs.Told.{read_told}
 use Rattle.iptables_lines.proofs.Lines.{filter_opens, star_closes, commit_closes, empty_passed, comment_passed, words_line}
-use borrow.Author.Rules.{rules}
 use Rattle.iptables_lines.proofs.line_read.Goals as goal
 use Rattle.iptables_lines.proofs.line_read.Goals.{After-starts_with, Else-same_bytes, Else-starts_with, Then-starts_with, then-line-eq0-via-then-line-eq0, then-line-eq0-via-else-line-eq0+then-starts_with-2}
 

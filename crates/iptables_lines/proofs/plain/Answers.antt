@@ -1,7 +1,6 @@
 -- `plain` meets its contract: the record is that of no rule. Assumes nothing.
 use mathlib.Core.Path.{refl}
 use Rattle.iptables_lines.specs.Told.{plain_told}
-use borrow.Author.Rules.{rules}
 use Rattle.iptables_lines.proofs.plain.Goals as goal
 
 pub returns : goal.returns

@@ -7,7 +7,6 @@ use Rattle.iptables.specs.Listing.{append_read}
 use Rattle.iptables_rule.specs.Found.{words_from}
 use Rattle.iptables_lines.specs.Told.{read_told}
 use Rattle.iptables_lines.proofs.Lines.{rule_line, rule_line_told}
-use borrow.Author.Rules.{rules}
 use Rattle.iptables_lines.proofs.rule_read.Goals as goal
 use Rattle.iptables_lines.proofs.rule_read.Goals.{After-rule_of-read}
 

@@ -2,7 +2,6 @@
 use Prim.Native.Nat.{ℕ}
 use mathlib.Core.Path.{◌≡◌, subst}
 use mathlib.Core.List.{List}
-use borrow.Author.Rules.{rules}
 use Rattle.iptables_reader.specs.Gathering.{GatheredAs}
 use Rattle.iptables_reader.specs.declared.Seen.{Seen}
 use Rattle.iptables_reader.specs.declared.Gathered.{Gathered}

@@ -1,12 +1,11 @@
 -- `gather` meets its contract. The loop's invariant: what is seen is what the lines before `start` have, and the listing is read as the lines from there
 -- on are, behind that; the line with this number goes from `start` to `end`. The measure is how many bytes are left. Assumes nothing.
-use Prim.Native.Nat.{ℕ, ◌-◌}
+use Prim.Native.Nat.{ℕ}
 use native.Mathlib.Omega.{arith}
 use mathlib.Core.Path.{◌≡◌, sym, ◌∙◌}
 use mathlib.Core.List.{List}
 use lib.ListN.{length}
-use borrow.Author.Rules.{rules}
-use Rattle.iptables_reader.proofs.Gathering.{LinesSeen, no_line_seen, line_inside, line_turned, line_seen, cut_short, all_seen}
+use Rattle.iptables_reader.proofs.Gathering.{no_line_seen, line_inside, line_turned, line_seen, cut_short, all_seen}
 use Rattle.iptables_reader.proofs.gather.Goals as goal
 use Rattle.iptables_reader.proofs.gather.Goals.{After-stepped-step, At-loop-end}
 

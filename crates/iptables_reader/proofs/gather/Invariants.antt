@@ -1,10 +1,6 @@
-use Prim.Native.Nat.{ℕ, ◌-◌}
-use native.Mathlib.Omega.{arith}
-use mathlib.Core.Path.{◌≡◌, sym, ◌∙◌}
-use mathlib.Core.List.{List}
+use Prim.Native.Nat.{◌-◌}
 use lib.ListN.{length}
-use borrow.Author.Rules.{rules}
-use Rattle.iptables_reader.proofs.Gathering.{LinesSeen, no_line_seen, line_inside, line_turned, line_seen, cut_short, all_seen}
+use Rattle.iptables_reader.proofs.Gathering.{LinesSeen}
 use Rattle.iptables_reader.proofs.gather.Given as goal
 
 abbrev pub invariant-loop-end : goal.invariant-loop-end

@@ -1,6 +1,5 @@
 -- `stepped` meets its contract: outside the part by whether the line begins it, and inside as `stepped_inside` says. Assumes nothing.
 use mathlib.Core.Path.{◌≡◌, ◌∙◌, ap}
-use borrow.Author.Rules.{rules}
 use borrow.Author.Tests.{not-true, not-false}
 use Rattle.iptables.specs.Listing.{is_filter}
 use Rattle.iptables_reader.specs.Kept.{line_at}

@@ -3,7 +3,6 @@
 use Prim.Native.Nat.{ℕ}
 use mathlib.Core.Path.{◌≡◌, sym, ◌∙◌, ap}
 use mathlib.Core.List.{List, []}
-use borrow.Author.Rules.{rules}
 use Rattle.iptables.specs.Listing.{first_only, line_read}
 use Rattle.iptables_lines.specs.Told.{line_told, read_told}
 use Rattle.iptables_lines.specs.declared.Line.TheVariants.{Rule}

@@ -4,7 +4,6 @@ use Prim.Native.Nat.{ℕ, ◌≤◌}
 use native.Mathlib.Omega.{arith}
 use mathlib.Core.Path.{sym, ◌∙◌}
 use mathlib.Core.List.{List}
-use borrow.Author.Rules.{rules}
 use Rattle.policy.specs.Policy.{most_listed}
 use Rattle.iptables.specs.Listing.{Found}
 use Rattle.iptables_reader.specs.Gathering.{FoundAs}

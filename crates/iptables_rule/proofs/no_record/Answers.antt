@@ -1,5 +1,4 @@
 -- `no_record` meets its contract: the record of a rule whose numbers are all 0. Assumes nothing.
-use borrow.Author.Rules.{rules}
 use Rattle.iptables_rule.specs.Found.{no_rule}
 use Rattle.iptables_rule.proofs.no_record.Goals as goal
 

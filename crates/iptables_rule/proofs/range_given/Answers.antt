@@ -4,7 +4,6 @@ use Rattle.iptables.specs.Options.{range_given}
 use Rattle.iptables_words.specs.Told.{range_told}
 use Rattle.iptables_rule.specs.Found.{given_from}
 use Rattle.iptables_rule.proofs.Finding.{range_found_lem, bounds_is, bounds_not}
-use borrow.Author.Rules.{rules}
 use Rattle.iptables_rule.proofs.range_given.Goals as goal
 use Rattle.iptables_rule.proofs.range_given.Goals.{After-ranged-range}
 

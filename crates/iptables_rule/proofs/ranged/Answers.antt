@@ -1,6 +1,5 @@
 -- `ranged` meets its contract: how often the option is given decides, as in the definition. Assumes nothing.
 use mathlib.Core.Path.{refl}
-use borrow.Author.Rules.{rules}
 use borrow.Author.Tests.{eq-eqb, ne_eqb}
 use Rattle.iptables_words.specs.Told.{range_told}
 use Rattle.iptables_rule.specs.Found.{range_found}

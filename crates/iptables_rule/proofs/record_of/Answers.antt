@@ -3,7 +3,6 @@ use mathlib.Core.Path.{refl}
 use Rattle.deployment.specs.Bytes.{bytes_of}
 use Rattle.deployment.specs.Values.{rule_bytes}
 use Rattle.flows.proofs.ManyFlows.{action_is_byte}
-use borrow.Author.Rules.{rules}
 use Rattle.iptables_rule.proofs.record_of.Goals as goal
 
 pub returns : goal.returns

@@ -2,9 +2,8 @@
 use Prim.Native.Nat.{ℕ}
 use mathlib.Core.Path.{◌≡◌, refl, sym, ◌∙◌, ap}
 use mathlib.Core.Bool.{true}
-use mathlib.Core.Logic.{⊎_elim}
 use mathlib.Core.List.{List}
-use Rattle.policy.proofs.Tests.{never, and_both, both_and, fails, passes}
+use Rattle.policy.proofs.Tests.{never, and_both, both_and}
 use Rattle.catalogue.specs.Answers.{checking}
 use Rattle.lines.specs.Text.{text}
 use Rattle.iptables.specs.Options.{Given, even}
@@ -12,7 +11,6 @@ use Rattle.iptables_rule.specs.Found.{words_from, given_from, rule_or, rule_read
 use Rattle.iptables_rule.proofs.Finding.{target_is, target_not}
 use Rattle.iptables_rule.proofs.Turns.{known}
 use Rattle.iptables_rule.proofs.Ruling.{stand, Parts, unread, low_above, read, Told, rule, told_parts, told_missing}
-use borrow.Author.Rules.{rules}
 use Rattle.iptables_rule.proofs.rule_of.Goals as goal
 use Rattle.iptables_rule.proofs.rule_of.Goals.{After-options_known, After-range_given-to, Else-not-all_read, Else-not-options_stand, then-not-options_known-via-then-not-options_known, then-not-options_known-via-else-not-options_known+then-not-options_stand}
 

@@ -1,6 +1,5 @@
 -- `unread` meets its contract: the case, and the record of no rule. Assumes nothing.
 use mathlib.Core.Path.{refl}
-use borrow.Author.Rules.{rules}
 use Rattle.catalogue.specs.Answers.{checking}
 use Rattle.iptables_rule.specs.Found.{rule_or, rule_read_told}
 use Rattle.iptables_rule.proofs.unread.Goals as goal

@@ -1,6 +1,5 @@
 -- `meant` meets its contract: kind by kind, what is called tells what the definition says. Assumes nothing.
 use Rattle.iptables.specs.Words.{meant}
-use borrow.Author.Rules.{rules}
 use Rattle.iptables_words.proofs.meant.Goals as goal
 
 pub returns-in-Protocol : goal.returns-in-Protocol

@@ -1,7 +1,6 @@
 -- `number_in` meets its contract: the word is no number, one out of its bounds, or one within them. Assumes nothing.
 use mathlib.Core.Path.{◌≡◌, sym, ◌∙◌}
 use mathlib.Core.Logic.{inl, inr, ⊎_elim}
-use borrow.Author.Rules.{rules}
 use Rattle.numerals.specs.Numerals.{number_of}
 use Rattle.numerals.specs.Found.{whole_held}
 use Rattle.numerals.specs.declared.Whole.TheVariants.{Is}

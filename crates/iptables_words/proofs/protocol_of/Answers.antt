@@ -6,7 +6,6 @@ use mathlib.Core.List.{List}
 use Rattle.policy.specs.Lists.{same}
 use Rattle.lines.specs.Text.{text}
 use Rattle.iptables_words.proofs.Protocols.{is_tcp, is_udp, is_icmp, numbered, no_protocol}
-use borrow.Author.Rules.{rules}
 use Rattle.iptables_words.proofs.protocol_of.Goals as goal
 use Rattle.iptables_words.proofs.protocol_of.Goals.{After-same_bytes, Else-same_bytes, Else-same_bytes-2, Else-same_bytes-3}
 

@@ -1,10 +1,10 @@
 -- `ends_at` meets its contract: what is left of the two lists, from k on, says what the whole lists say; the first rules of the array, as many
 -- as are counted, are the list. Assumes nothing.
-use Prim.Native.Nat.{ℕ, ◌≤◌, ◌-◌}
+use Prim.Native.Nat.{ℕ, ◌≤◌}
 use native.Mathlib.Omega.{arith}
 use mathlib.Core.Path.{◌≡◌, refl, sym, ◌∙◌, ap}
 use mathlib.Core.List.{List}
-use lib.ListN.{length, take, drop}
+use lib.ListN.{length, take}
 use lib.Seq.{get_or-take}
 use borrow.Author.Rules.{rules}
 use Rattle.policy.specs.Lists.{same}

@@ -1,16 +1,8 @@
-use Prim.Native.Nat.{ℕ, ◌≤◌, ◌-◌}
-use native.Mathlib.Omega.{arith}
-use mathlib.Core.Path.{◌≡◌, refl, sym, ◌∙◌, ap}
-use mathlib.Core.List.{List}
+use Prim.Native.Nat.{◌≤◌, ◌-◌}
+use mathlib.Core.Path.{◌≡◌}
 use lib.ListN.{length, take, drop}
-use lib.Seq.{get_or-take}
-use borrow.Author.Rules.{rules}
 use Rattle.policy.specs.Lists.{same}
-use Rattle.policy.specs.Policy.{most_rules}
-use Rattle.running.specs.Running.{view}
-use Rattle.running.proofs.Edits.{view_count, view_fits}
 use Rattle.deployment.specs.Values.{numbers_of}
-use Rattle.catalogue.proofs.SideBySide.{same_lengths, same_further, same_not, same_ends}
 use Rattle.judge.proofs.ends_at.Given as goal
 
 abbrev pub invariant-loop-k : goal.invariant-loop-k

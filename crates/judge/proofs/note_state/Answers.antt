@@ -2,7 +2,6 @@
 use native.Mathlib.Omega.{arith}
 use mathlib.Core.Path.{◌≡◌, sym, ◌∙◌, ap}
 use lib.ListN.{length, take}
-use borrow.Author.Rules.{rules}
 use Rattle.running.specs.Running.{view}
 use Rattle.running.proofs.Edits.{view_count, view_fits}
 use Rattle.deployment.specs.Values.{numbers_of}

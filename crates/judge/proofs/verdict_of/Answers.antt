@@ -1,24 +1,20 @@
 -- `verdict_of` meets its contract. The loop's invariant: the state is sound, and what the whole script gets is what the commands from k on get
 -- from the list and the verdict so far; the measure is what is left of the commands. Assumes nothing.
-use Prim.Native.Nat.{◌≤◌, ◌<◌, ◌-◌}
+use Prim.Native.Nat.{◌<◌}
 use native.Mathlib.Omega.{arith}
 use mathlib.Core.Path.{◌≡◌, sym, ◌∙◌}
 use mathlib.Core.Bool.{cond}
-use lib.ListN.{drop}
-use borrow.Author.Rules.{rules}
 use Rattle.policy.specs.Lists.{same}
 use Rattle.policy.specs.Judge.{verdict}
 use Rattle.policy.specs.declared.Verdict.TheVariants.{Elsewhere}
-use Rattle.policy.proofs.Tests.{fails, passes}
 use Rattle.deployment.specs.Values.{numbers_of, script_of}
-use Rattle.deployment.specs.Commands.{command_count, command_at, decoded}
-use Rattle.deployment.specs.declared.Decoded.TheVariants.{Is}
+use Rattle.deployment.specs.Commands.{command_count}
 use Rattle.running.specs.Running.{view}
 use Rattle.replay.specs.Stepping.{Sound}
 use Rattle.replay.specs.Answers.{commands_of}
 use Rattle.replay.proofs.Steps.{step_failed, step_passed, step_sound}
 use Rattle.replay.proofs.Scripts.{never_wrong}
-use Rattle.judge.proofs.Verdicts.{rest, verdict_rest, passes_on, breaks_off, comes_to, judging, starts}
+use Rattle.judge.proofs.Verdicts.{verdict_rest, passes_on, breaks_off, comes_to, judging, starts}
 use Rattle.judge.proofs.verdict_of.Goals as goal
 use Rattle.judge.proofs.verdict_of.Goals.{After-ends_at, After-start-state, In_default-refusal, In-loop-k}
 

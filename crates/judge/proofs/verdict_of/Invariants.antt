@@ -1,22 +1,12 @@
-use Prim.Native.Nat.{◌≤◌, ◌<◌, ◌-◌}
-use native.Mathlib.Omega.{arith}
-use mathlib.Core.Path.{◌≡◌, sym, ◌∙◌}
-use mathlib.Core.Bool.{cond}
+use Prim.Native.Nat.{◌≤◌, ◌-◌}
+use mathlib.Core.Path.{◌≡◌}
 use lib.ListN.{drop}
-use borrow.Author.Rules.{rules}
-use Rattle.policy.specs.Lists.{same}
 use Rattle.policy.specs.Judge.{verdict}
-use Rattle.policy.specs.declared.Verdict.TheVariants.{Elsewhere}
-use Rattle.policy.proofs.Tests.{fails, passes}
 use Rattle.deployment.specs.Values.{numbers_of, script_of}
-use Rattle.deployment.specs.Commands.{command_count, command_at, decoded}
-use Rattle.deployment.specs.declared.Decoded.TheVariants.{Is}
 use Rattle.running.specs.Running.{view}
 use Rattle.replay.specs.Stepping.{Sound}
 use Rattle.replay.specs.Answers.{commands_of}
-use Rattle.replay.proofs.Steps.{step_failed, step_passed, step_sound}
-use Rattle.replay.proofs.Scripts.{never_wrong}
-use Rattle.judge.proofs.Verdicts.{rest, verdict_rest, passes_on, breaks_off, comes_to, judging, starts}
+use Rattle.judge.proofs.Verdicts.{rest}
 use Rattle.judge.proofs.verdict_of.Given as goal
 
 abbrev pub invariant-loop-k : goal.invariant-loop-k

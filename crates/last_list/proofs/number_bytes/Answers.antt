@@ -3,7 +3,6 @@ use Prim.Native.Nat.{◌/◌, ◌%◌}
 use mathlib.Core.Path.{◌≡◌}
 use native.Mathlib.Omega.{arith}
 use Rattle.deployment.specs.Bytes.{bytes_of}
-use borrow.Author.Rules.{rules}
 use Rattle.last_list.proofs.number_bytes.Goals as goal
 
 pub returns : goal.returns

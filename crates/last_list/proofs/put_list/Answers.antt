@@ -1,14 +1,13 @@
 -- `put_list` meets its contract: turned away with nothing written, or the whole list written. The loop's invariant: the first k numbers of the
 -- list stand in the place, two bytes each. The measure is what is left of the list. Assumes nothing.
-use Prim.Native.Nat.{ℕ, ◌-◌, ◌≤◌, ◌<◌, zero-le}
+use Prim.Native.Nat.{ℕ, ◌≤◌, ◌<◌, zero-le}
 use native.Mathlib.Omega.{arith}
 use mathlib.Core.Path.{◌≡◌, ◌∙◌, ap}
 use lib.ListN.{take}
 use Rattle.running.specs.Running.{view}
 use Rattle.running.proofs.Edits.{view_count, view_fits}
 use Rattle.deployment.proofs.Storing.{stored_long}
-use Rattle.last_list.proofs.LastList.{Put, none_put, one_more_put, no_room, all_put}
-use borrow.Author.Rules.{rules}
+use Rattle.last_list.proofs.LastList.{none_put, one_more_put, no_room, all_put}
 use Rattle.last_list.proofs.put_list.Goals as goal
 use Rattle.last_list.proofs.put_list.Goals.{After-count-count, In-loop-k}
 

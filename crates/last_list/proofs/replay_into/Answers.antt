@@ -1,7 +1,6 @@
 -- `replay_into` meets its contract, by how the replay ends: turned away, broken off, or at a last list, which is written where there is
 -- room. Assumes nothing.
 use Rattle.last_list.proofs.Endings.{turned_away, broken_off, came_to_end}
-use borrow.Author.Rules.{rules}
 use Rattle.last_list.proofs.replay_into.Goals as goal
 
 pub returns-in-Turned : goal.returns-in-Turned

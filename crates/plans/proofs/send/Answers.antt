@@ -1,6 +1,5 @@
 -- `send` meets its contract: no room, or the field's bytes are stored from the front of the place on. Assumes nothing.
 use native.Mathlib.Omega.{arith}
-use borrow.Author.Rules.{rules}
 use Rattle.plans.proofs.LentPlace.{no_room, field_sent}
 use Rattle.plans.proofs.send.Goals as goal
 

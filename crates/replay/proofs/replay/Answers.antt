@@ -12,7 +12,6 @@ use Rattle.catalogue.specs.Answers.{checking}
 use Rattle.catalogue.specs.declared.Checking.TheVariants.{Good}
 use Rattle.replay.specs.Answers.{outcome_of, commands_of}
 use Rattle.replay.proofs.Values.{turned_at_policy, turned_at_script, accepted_policy, accepted_script, runs, starts_sound}
-use borrow.Author.Rules.{rules}
 use Rattle.replay.proofs.replay.Goals as goal
 use Rattle.replay.proofs.replay.Goals.{In_default, In_default-d, Joined-size-lt-MOST_RULES, then-size-lt-MOST_RULES, else-size-lt-MOST_RULES}
 

@@ -8,7 +8,6 @@ use Rattle.running.specs.Running.{view}
 use Rattle.running.specs.declared.Running.{Running}
 use Rattle.running.proofs.Edits.{view_fits}
 use Rattle.replay.proofs.Settled.{view_at}
-use borrow.Author.Rules.{rules}
 use Rattle.replay.proofs.rule_at.Goals as goal
 
 -- the list has no more rules than there are slots

@@ -1,16 +1,12 @@
 -- `run` gives what the replay of the script's commands gives. The loop's invariant: the state is sound, and the replay of the whole script is
 -- that of the commands from k on, from the list so far; the measure is what is left of the commands. Assumes nothing.
-use Prim.Native.Nat.{◌-◌, ◌<◌}
+use Prim.Native.Nat.{◌<◌}
 use native.Mathlib.Omega.{arith}
-use mathlib.Core.Path.{◌≡◌, refl, sym, ◌∙◌, ap}
-use borrow.Author.Rules.{rules}
-use lib.ListN.{drop}
-use Rattle.policy.specs.Replay.{replay_from, replay}
-use Rattle.deployment.specs.Values.{script_of}
+use mathlib.Core.Path.{refl, sym, ◌∙◌, ap}
+use Rattle.policy.specs.Replay.{replay}
 use Rattle.deployment.specs.Commands.{command_count}
 use Rattle.running.specs.Running.{view}
-use Rattle.replay.specs.Stepping.{Sound}
-use Rattle.replay.specs.Answers.{shown_by, outcome_of, commands_of}
+use Rattle.replay.specs.Answers.{shown_by, outcome_of}
 use Rattle.replay.proofs.Steps.{step_failed, step_passed, step_sound}
 use Rattle.replay.proofs.Scripts.{never_wrong, run_on, run_breaks, run_ends}
 use Rattle.replay.proofs.run.Goals as goal

@@ -1,7 +1,6 @@
 -- `settle` leaves what the definition says, by whether the edit is refused. Assumes nothing.
 use Rattle.running.specs.Running.{shown}
 use Rattle.replay.specs.Stepping.{left_by, settled, places_after}
-use borrow.Author.Rules.{rules}
 use Rattle.replay.proofs.settle.Goals as goal
 
 pub returns-in-Nothing : goal.returns-in-Nothing

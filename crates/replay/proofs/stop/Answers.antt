@@ -1,6 +1,5 @@
 -- `stop` shows the empty list and the ending. Assumes nothing.
 use Rattle.replay.specs.Answers.{shown_by, stopped}
-use borrow.Author.Rules.{rules}
 use Rattle.replay.proofs.stop.Goals as goal
 
 pub returns : goal.returns

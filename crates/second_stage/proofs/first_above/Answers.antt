@@ -1,12 +1,11 @@
 -- `first_above` finds the first rule above a place behind those before it. The loop's invariant: from index `at` on as many stand before it as are left of those that stand
 -- before it from the start on; the measure is what is left of the list's length. Assumes nothing.
-use Prim.Native.Nat.{ℕ, ◌-◌, ◌≤◌, ◌<◌}
+use Prim.Native.Nat.{ℕ, ◌<◌}
 use native.Mathlib.Omega.{arith}
 use mathlib.Core.Path.{◌≡◌, refl, ◌∙◌, ap}
-use borrow.Author.Rules.{rules}
 use borrow.Author.Tests.{lt-ltb, le-ltb}
 use lib.Dec.{ltb}
-use lib.ListN.{length, take, get_or}
+use lib.ListN.{length, get_or}
 use Rattle.running.specs.Running.{view}
 use Rattle.running.proofs.Edits.{view_count, view_fits}
 use Rattle.first_stage.proofs.Looking.{rule_shown, Seeking, seek_past, seek_here, seek_ends}

@@ -1,13 +1,7 @@
-use Prim.Native.Nat.{ℕ, ◌-◌, ◌≤◌, ◌<◌}
-use native.Mathlib.Omega.{arith}
-use mathlib.Core.Path.{◌≡◌, refl, ◌∙◌, ap}
-use borrow.Author.Rules.{rules}
-use borrow.Author.Tests.{lt-ltb, le-ltb}
+use Prim.Native.Nat.{◌-◌, ◌≤◌}
 use lib.Dec.{ltb}
-use lib.ListN.{length, take, get_or}
-use Rattle.running.specs.Running.{view}
-use Rattle.running.proofs.Edits.{view_count, view_fits}
-use Rattle.first_stage.proofs.Looking.{rule_shown, Seeking, seek_past, seek_here, seek_ends}
+use lib.ListN.{take, get_or}
+use Rattle.first_stage.proofs.Looking.{Seeking}
 use Rattle.second_stage.proofs.first_above.Given as goal
 
 abbrev pub invariant-loop-at : goal.invariant-loop-at

@@ -5,9 +5,7 @@ use native.Mathlib.Omega.{arith}
 use mathlib.Core.Path.{◌≡◌, refl, sym, ◌∙◌}
 use mathlib.Core.Bool.{Bool, false}
 use mathlib.Core.List.{List}
-use borrow.Author.Rules.{rules}
 use lib.ListN.{length, get_or}
-use Rattle.policy.specs.Claims.{Admitted}
 use Rattle.policy.proofs.Lists.{place_in_lem}
 use Rattle.running.specs.Running.{view}
 use Rattle.places.specs.Places.{Says}

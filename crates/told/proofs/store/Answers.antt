@@ -1,9 +1,9 @@
 -- `store` meets its contract. The loop's invariant: the answer is the old one with the first k values stored. The measure is what
 -- is left of the values. Assumes nothing.
-use Prim.Native.Nat.{ℕ, ◌+◌, ◌-◌, ◌≤◌, ◌<◌, zero-le}
+use Prim.Native.Nat.{ℕ, ◌+◌, ◌<◌, zero-le}
 use native.Mathlib.Nat.{zero-add}
 use native.Mathlib.Omega.{arith}
-use mathlib.Core.Path.{◌≡◌, refl, sym, ◌∙◌, ap}
+use mathlib.Core.Path.{◌≡◌, refl, ◌∙◌, ap}
 use mathlib.Core.Logic.{inl, inr}
 use mathlib.Core.List.{List}
 use lib.ListN.{length, take, set, get_or, length-set}

@@ -1,6 +1,5 @@
 -- `tell_checked` meets its contract: values that pass, or a refusal at 0. Assumes nothing.
 use mathlib.Core.Path.{refl, sym}
-use borrow.Author.Rules.{rules}
 use Rattle.told.specs.Answers.{checked_told}
 use Rattle.told.proofs.Telling.{tells_of}
 use Rattle.told.proofs.tell_checked.Goals as goal

@@ -1,6 +1,5 @@
 -- `tell_decided` meets its contract: the action's number and the place, or a refusal. Assumes nothing.
 use mathlib.Core.Path.{sym}
-use borrow.Author.Rules.{rules}
 use Rattle.told.specs.Answers.{decided_told}
 use Rattle.told.proofs.Telling.{tells_of}
 use Rattle.told.proofs.tell_decided.Goals as goal

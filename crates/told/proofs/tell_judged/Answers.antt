@@ -1,6 +1,5 @@
 -- `tell_judged` meets its contract: a verdict, or a refusal. Assumes nothing.
 use mathlib.Core.Path.{sym}
-use borrow.Author.Rules.{rules}
 use Rattle.told.specs.Answers.{judged_told}
 use Rattle.told.proofs.Telling.{tells_of}
 use Rattle.told.proofs.tell_judged.Goals as goal

@@ -2,7 +2,6 @@
 use mathlib.Core.Path.{◌≡◌, refl}
 use mathlib.Core.Bool.{Bool, true, false}
 use mir.Val.{bool_byte}
-use borrow.Author.Rules.{rules}
 use Rattle.told.specs.Answers.{flag}
 use Rattle.told.proofs.tell_layout.Goals as goal
 

@@ -1,6 +1,5 @@
 -- `tell_planned` meets its contract: a plan, or a refusal. Assumes nothing.
 use mathlib.Core.Path.{sym}
-use borrow.Author.Rules.{rules}
 use Rattle.told.specs.Answers.{planned_told}
 use Rattle.told.proofs.Telling.{tells_of}
 use Rattle.told.proofs.tell_planned.Goals as goal

@@ -1,6 +1,5 @@
 -- `tell_ran` meets its contract: bytes, a fault with its step, or a refusal. Assumes nothing.
 use mathlib.Core.Path.{sym}
-use borrow.Author.Rules.{rules}
 use Rattle.told.specs.Answers.{ran_told}
 use Rattle.told.proofs.Telling.{tells_of}
 use Rattle.told.proofs.tell_ran.Goals as goal

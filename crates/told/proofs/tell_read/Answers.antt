@@ -1,6 +1,5 @@
 -- `tell_read` meets its contract: the places of the values, or a refusal. Assumes nothing.
 use mathlib.Core.Path.{sym}
-use borrow.Author.Rules.{rules}
 use Rattle.told.specs.Answers.{read_told}
 use Rattle.told.proofs.Telling.{tells_of}
 use Rattle.told.proofs.tell_read.Goals as goal

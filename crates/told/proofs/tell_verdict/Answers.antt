@@ -1,6 +1,5 @@
 -- `tell_verdict` meets its contract: the number and the values of each verdict. Assumes nothing.
 use mathlib.Core.Path.{refl, sym}
-use borrow.Author.Rules.{rules}
 use Rattle.policy.specs.Judge.{verdict_numbers}
 use Rattle.told.specs.Answers.{verdict_told}
 use Rattle.told.proofs.Telling.{tells_of}

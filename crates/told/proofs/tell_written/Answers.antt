@@ -1,6 +1,5 @@
 -- `tell_written` meets its contract: bytes, or a refusal. Assumes nothing.
 use mathlib.Core.Path.{sym}
-use borrow.Author.Rules.{rules}
 use Rattle.told.specs.Answers.{written_told}
 use Rattle.told.proofs.Telling.{tells_of}
 use Rattle.told.proofs.tell_written.Goals as goal

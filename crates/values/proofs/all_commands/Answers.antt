@@ -1,10 +1,8 @@
 -- `all_commands` meets its contract: the commands from the k-th on say what all of them say. Assumes nothing.
-use Prim.Native.Nat.{◌≤◌, ◌-◌}
 use native.Mathlib.Omega.{arith}
-use mathlib.Core.Path.{◌≡◌, refl, sym, ◌∙◌}
-use borrow.Author.Rules.{rules}
-use Rattle.deployment.specs.Commands.{command_count, command_at}
-use Rattle.values.proofs.Scripts.{decoded_is, decoded_wrong, read_from, read_further, read_wrong, read_all}
+use mathlib.Core.Path.{refl, sym, ◌∙◌}
+use Rattle.deployment.specs.Commands.{command_at}
+use Rattle.values.proofs.Scripts.{decoded_is, decoded_wrong, read_further, read_wrong, read_all}
 use Rattle.values.proofs.all_commands.Goals as goal
 
 pub loop-k-init : goal.loop-k-init

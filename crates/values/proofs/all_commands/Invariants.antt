@@ -1,9 +1,7 @@
 use Prim.Native.Nat.{◌≤◌, ◌-◌}
-use native.Mathlib.Omega.{arith}
-use mathlib.Core.Path.{◌≡◌, refl, sym, ◌∙◌}
-use borrow.Author.Rules.{rules}
-use Rattle.deployment.specs.Commands.{command_count, command_at}
-use Rattle.values.proofs.Scripts.{decoded_is, decoded_wrong, read_from, read_further, read_wrong, read_all}
+use mathlib.Core.Path.{◌≡◌}
+use Rattle.deployment.specs.Commands.{command_count}
+use Rattle.values.proofs.Scripts.{read_from}
 use Rattle.values.proofs.all_commands.Given as goal
 
 abbrev pub invariant-loop-k : goal.invariant-loop-k

@@ -6,7 +6,6 @@ use mathlib.Core.List.{List, [], ◌∷◌}
 use Prim.Native.Nat.{ℕ}
 use lib.ListN.{length, get_or}
 use borrow.Author.Tests.{ne_eqb}
-use borrow.Author.Rules.{rules}
 use Rattle.deployment.specs.Bytes.{number}
 use Rattle.deployment.specs.Values.{default_fits}
 use Rattle.deployment.specs.Contents.{default_read}

@@ -3,7 +3,6 @@ use mathlib.Core.Path.{sym, ◌∙◌}
 use Rattle.deployment.specs.Contents.{keep_read}
 use Rattle.deployment.specs.FieldValues.{keep_value}
 use Rattle.catalogue.specs.Answers.{checking}
-use borrow.Author.Rules.{rules}
 use Rattle.values.proofs.keep_checked.Goals as goal
 use Rattle.values.proofs.keep_checked.Goals.{else-occurs_in-via-then-occurs_in+else-occurs_in-2, else-occurs_in-via-else-occurs_in}
 

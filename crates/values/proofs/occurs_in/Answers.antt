@@ -1,11 +1,9 @@
 -- `occurs_in` meets its contract: what is left of the two lists, from i and from j on, says what the whole lists say. Assumes nothing.
-use Prim.Native.Nat.{◌≤◌, ◌<◌, ◌-◌}
+use Prim.Native.Nat.{◌≤◌, ◌<◌}
 use borrow.Author.Tests.{ltb-true, ltb-false, eq-eqb, ne_eqb}
 use native.Mathlib.Omega.{arith}
-use mathlib.Core.Path.{◌≡◌, refl, sym, ◌∙◌}
+use mathlib.Core.Path.{refl, sym, ◌∙◌}
 use lib.ListN.{length, drop}
-use borrow.Author.Rules.{rules}
-use Rattle.policy.specs.Lists.{occurs}
 use Rattle.deployment.specs.Values.{numbers_of}
 use Rattle.catalogue.proofs.SideBySide.{occurs_both, occurs_later, occurs_done, occurs_short}
 use Rattle.values.proofs.occurs_in.Goals as goal

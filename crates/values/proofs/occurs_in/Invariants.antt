@@ -1,13 +1,8 @@
-use Prim.Native.Nat.{◌≤◌, ◌<◌, ◌-◌}
-use mathlib.Core.Logic.{⊎_elim}
-use borrow.Author.Tests.{ltb-true, ltb-false, eq-eqb, ne_eqb}
-use native.Mathlib.Omega.{arith}
-use mathlib.Core.Path.{◌≡◌, refl, sym, ◌∙◌}
+use Prim.Native.Nat.{◌≤◌, ◌-◌}
+use mathlib.Core.Path.{◌≡◌}
 use lib.ListN.{length, drop}
-use borrow.Author.Rules.{rules}
 use Rattle.policy.specs.Lists.{occurs}
 use Rattle.deployment.specs.Values.{numbers_of}
-use Rattle.catalogue.proofs.SideBySide.{occurs_both, occurs_later, occurs_done, occurs_short}
 use Rattle.values.proofs.occurs_in.Given as goal
 
 abbrev pub invariant-loop-i : goal.invariant-loop-i

@@ -5,7 +5,6 @@ use Rattle.running.specs.Naming.{named}
 use Rattle.deployment.specs.FieldValues.{policy_value}
 use Rattle.catalogue.specs.Answers.{checking}
 use Rattle.values.proofs.Policies.{answer, policy_answer}
-use borrow.Author.Rules.{rules}
 use Rattle.values.proofs.policy_checked.Goals as goal
 use Rattle.values.proofs.policy_checked.Goals.{After-naming-naming}
 

@@ -4,7 +4,6 @@ use Prim.Native.Nat.{ℕ, ◌≤◌}
 use native.Mathlib.Omega.{arith}
 use mathlib.Core.Path.{◌≡◌, sym, ◌∙◌}
 use mathlib.Core.Bool.{true}
-use lib.ListN.{length}
 use Rattle.policy.specs.Command.{is_type}
 use Rattle.deployment.specs.Bytes.{number, part}
 use Rattle.deployment.specs.Values.{script_fits}
@@ -13,7 +12,6 @@ use Rattle.deployment.proofs.Tests.{says_script}
 use Rattle.deployment.proofs.Records.{first_byte}
 use Rattle.catalogue.specs.Answers.{checking}
 use Rattle.values.proofs.Scripts.{wrong_type, wrong_command, right_script}
-use borrow.Author.Rules.{rules}
 use Rattle.values.proofs.script_checked.Goals as goal
 use Rattle.values.proofs.script_checked.Goals.{Else-not-is_type}
 

@@ -5,7 +5,6 @@ use mathlib.Core.Path.{◌∙◌}
 use lib.ListN.{length-set}
 use Rattle.deployment.proofs.ReadBack.{length_field}
 use Rattle.writer.proofs.Pieces.{field_put}
-use borrow.Author.Rules.{rules}
 use Rattle.writer.proofs.put_field.Goals as goal
 
 pub bounds-place-at-2 : goal.bounds-place-at-2

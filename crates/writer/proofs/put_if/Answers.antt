@@ -2,7 +2,6 @@
 use native.Mathlib.Omega.{arith}
 use mathlib.Core.Path.{refl}
 use Rattle.writer.specs.Answers.{field_if, bytes_if}
-use borrow.Author.Rules.{rules}
 use Rattle.writer.proofs.put_if.Goals as goal
 
 pub put_field-requires : goal.put_field-requires

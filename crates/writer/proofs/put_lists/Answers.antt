@@ -7,7 +7,6 @@ use Rattle.deployment.proofs.Storing.{stored_more, stored_room}
 use Rattle.deployment.specs.File.{initial_tag, field_bytes}
 use Rattle.writer.specs.Answers.{rules_bytes, lists_bytes}
 use Rattle.writer.proofs.Pieces.{length_all_rules}
-use borrow.Author.Rules.{rules}
 use Rattle.writer.proofs.put_lists.Goals as goal
 
 pub put_rules-at-requires : goal.put_rules-at-requires

@@ -1,11 +1,10 @@
 -- `writer::put_rules` meets its contract. The loop's invariant: the fields of the first k rules are stored from the start on, thirty
 -- bytes each. The measure is how many rules are left. Assumes nothing.
-use Prim.Native.Nat.{◌-◌, ◌/◌, ◌≤◌, zero-le}
+use Prim.Native.Nat.{◌/◌, zero-le}
 use native.Mathlib.Omega.{arith}
 use mathlib.Core.Path.{◌≡◌, refl}
 use lib.ListN.{length}
 use Rattle.deployment.specs.Bytes.{chunks, joined}
-use Rattle.deployment.specs.FieldValues.{Stored}
 use Rattle.writer.specs.Answers.{rules_bytes}
 use Rattle.deployment.proofs.Storing.{stored_long, stored_more}
 use Rattle.writer.proofs.Pieces.{length_rules, length_rule_at, rules_more}

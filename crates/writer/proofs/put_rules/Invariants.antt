@@ -1,12 +1,7 @@
-use Prim.Native.Nat.{◌-◌, ◌/◌, ◌≤◌, zero-le}
-use native.Mathlib.Omega.{arith}
-use mathlib.Core.Path.{◌≡◌, refl}
+use Prim.Native.Nat.{◌-◌, ◌/◌, ◌≤◌}
 use lib.ListN.{length}
-use Rattle.deployment.specs.Bytes.{chunks, joined}
 use Rattle.deployment.specs.FieldValues.{Stored}
 use Rattle.writer.specs.Answers.{rules_bytes}
-use Rattle.deployment.proofs.Storing.{stored_long, stored_more}
-use Rattle.writer.proofs.Pieces.{length_rules, length_rule_at, rules_more}
 use Rattle.writer.proofs.put_rules.Given as goal
 
 abbrev pub invariant-loop-k : goal.invariant-loop-k

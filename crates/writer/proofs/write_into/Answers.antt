@@ -6,7 +6,6 @@ use lib.ListN.{length}
 use Rattle.deployment.proofs.Storing.{stored_more, stored_room}
 use Rattle.writer.specs.Answers.{needed}
 use Rattle.writer.proofs.Files.{length_lists, length_with_default, length_with_keep, too_small, all_put}
-use borrow.Author.Rules.{rules}
 use Rattle.writer.proofs.write_into.Goals as goal
 use Rattle.writer.proofs.write_into.Goals.{After-put_lists-at}
 

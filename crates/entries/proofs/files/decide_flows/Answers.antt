@@ -11,7 +11,6 @@ use Rattle.deployment.proofs.Lent.{turned_away}
 use Rattle.entries.specs.Answers.{flows_reading}
 use Rattle.entries.proofs.Given.{file_held, file_turned}
 use Rattle.entries.proofs.Decisions.{few_rules, flows_of_file}
-use borrow.Author.Rules.{rules}
 use Rattle.entries.proofs.files.decide_flows.Goals as goal
 use Rattle.entries.proofs.files.decide_flows.Goals.{In-Accepted}
 

@@ -3,7 +3,6 @@
 use native.Mathlib.Omega.{arith}
 use Prim.Native.Nat.{ℕ}
 use mathlib.Core.List.{List}
-use borrow.Author.Rules.{rules}
 use Rattle.deployment.specs.File.{read_to_judge}
 use Rattle.deployment.proofs.Bytes.{elements_are_bytes}
 use Rattle.deployment.proofs.Lent.{turned_away}

@@ -3,7 +3,6 @@
 use native.Mathlib.Omega.{arith}
 use mathlib.Core.List.{List}
 use Prim.Native.Nat.{ℕ}
-use borrow.Author.Rules.{rules}
 use Rattle.deployment.specs.File.{read_file}
 use Rattle.deployment.proofs.Bytes.{elements_are_bytes}
 use Rattle.reader.specs.declared.Layout.{Layout}

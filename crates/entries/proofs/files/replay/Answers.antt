@@ -6,7 +6,6 @@ use Rattle.deployment.proofs.Lent.{turned_away}
 use Rattle.entries.specs.Answers.{replayed_reading}
 use Rattle.entries.proofs.Given.{file_turned_to_judge}
 use Rattle.entries.proofs.Replays.{replayed_file}
-use borrow.Author.Rules.{rules}
 use Rattle.entries.proofs.files.replay.Goals as goal
 
 pub returns-in-Refused : goal.returns-in-Refused

@@ -1,7 +1,6 @@
 -- `lists::decide` meets its contract: turned away as the tests say, or decided over what the bytes are read as. Assumes nothing.
 use mathlib.Core.Path.{sym, ◌∙◌}
 use Rattle.entries.proofs.Decisions.{turned_values, decided_values_lem}
-use borrow.Author.Rules.{rules}
 use Rattle.entries.proofs.lists.decide.Goals as goal
 
 pub returns-in-Bad : goal.returns-in-Bad

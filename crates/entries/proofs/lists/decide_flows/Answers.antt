@@ -1,7 +1,6 @@
 -- `lists::decide_flows` meets its contract: turned away as the tests say, or answered by what the bytes are read as. Assumes nothing.
 use mathlib.Core.Path.{sym, ◌∙◌}
 use Rattle.entries.proofs.Decisions.{flows_of_turned_values, flows_of_values}
-use borrow.Author.Rules.{rules}
 use Rattle.entries.proofs.lists.decide_flows.Goals as goal
 
 pub returns-in-Bad : goal.returns-in-Bad

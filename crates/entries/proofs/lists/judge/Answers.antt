@@ -3,7 +3,6 @@
 use native.Mathlib.Omega.{arith}
 use mathlib.Core.Path.{refl}
 use mathlib.Core.Bool.{true}
-use borrow.Author.Rules.{rules}
 use Rattle.deployment.proofs.Bytes.{elements_are_bytes}
 use Rattle.values.proofs.ValuesLent.{Lent, LentRead}
 use Rattle.deployment.proofs.Lent.{turned_away}

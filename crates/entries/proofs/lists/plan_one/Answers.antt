@@ -1,7 +1,6 @@
 -- `lists::plan_one` meets its contract: values that are turned away leave the place as it was; else the lists are planned as they are given.
 -- Assumes nothing.
 use native.Mathlib.Omega.{arith}
-use borrow.Author.Rules.{rules}
 use Rattle.deployment.proofs.Bytes.{elements_are_bytes}
 use Rattle.entries.specs.Answers.{planned}
 use Rattle.values.proofs.ValuesLent.{Lent, LentRead}

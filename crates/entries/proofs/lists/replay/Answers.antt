@@ -2,7 +2,6 @@
 -- nothing.
 use mathlib.Core.Path.{sym, ◌∙◌}
 use Rattle.entries.proofs.Replays.{turned_before, replayed_values_lem}
-use borrow.Author.Rules.{rules}
 use Rattle.entries.proofs.lists.replay.Goals as goal
 
 pub returns-in-Bad : goal.returns-in-Bad

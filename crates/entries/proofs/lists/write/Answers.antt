@@ -1,7 +1,6 @@
 -- `lists::write` meets its contract: values that are turned away leave the place as it was; else the file of their contents is written.
 -- Assumes nothing.
 use native.Mathlib.Omega.{arith}
-use borrow.Author.Rules.{rules}
 use Rattle.deployment.proofs.Bytes.{elements_are_bytes}
 use Rattle.entries.specs.Answers.{written_values}
 use Rattle.values.proofs.ValuesLent.{Lent, LentRead}

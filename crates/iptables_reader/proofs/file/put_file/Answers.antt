@@ -1,5 +1,4 @@
 -- `put_file` meets its contract: the fields of the rules, both policies and the default stand one behind the other. Assumes nothing.
-use borrow.Author.Rules.{rules}
 use Rattle.iptables_reader.proofs.Filing.{ListsPut, lists_put, denying_put, permitting_put}
 use Rattle.iptables_reader.proofs.file.put_file.Goals as goal
 use Rattle.iptables_reader.proofs.file.put_file.Goals.{After-put_numbers-2}

@@ -1,12 +1,10 @@
 -- `put_rules` meets its contract. The loop's invariant: the fields of the first k rules are stored from the start on, thirty bytes each. The measure is how
 -- many are left. Assumes nothing.
-use Prim.Native.Nat.{◌*◌, ◌-◌, ◌≤◌, zero-le}
+use Prim.Native.Nat.{zero-le}
 use native.Mathlib.Omega.{arith}
 use mathlib.Core.Path.{◌≡◌}
-use borrow.Author.Rules.{rules}
-use Rattle.deployment.specs.FieldValues.{Stored}
 use Rattle.deployment.proofs.Storing.{stored_long}
-use Rattle.iptables_reader.proofs.Filing.{fields_at, fields_none, fields_further}
+use Rattle.iptables_reader.proofs.Filing.{fields_none, fields_further}
 use Rattle.iptables_reader.proofs.file.put_rules.Goals as goal
 
 pub loop-k-init : goal.loop-k-init

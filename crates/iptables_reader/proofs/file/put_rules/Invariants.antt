@@ -1,10 +1,6 @@
-use Prim.Native.Nat.{◌*◌, ◌-◌, ◌≤◌, zero-le}
-use native.Mathlib.Omega.{arith}
-use mathlib.Core.Path.{◌≡◌}
-use borrow.Author.Rules.{rules}
+use Prim.Native.Nat.{◌*◌, ◌-◌, ◌≤◌}
 use Rattle.deployment.specs.FieldValues.{Stored}
-use Rattle.deployment.proofs.Storing.{stored_long}
-use Rattle.iptables_reader.proofs.Filing.{fields_at, fields_none, fields_further}
+use Rattle.iptables_reader.proofs.Filing.{fields_at}
 use Rattle.iptables_reader.proofs.file.put_rules.Given as goal
 
 abbrev pub invariant-loop-k : goal.invariant-loop-k

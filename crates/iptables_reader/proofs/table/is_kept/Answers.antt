@@ -1,15 +1,13 @@
 -- `is_kept` meets its contract: the records from the k-th on say what the first `count` of them say. A record of another mark is another one. The measure is
 -- how many are left. Assumes nothing.
-use Prim.Native.Nat.{◌-◌}
 use native.Mathlib.Omega.{arith}
 use mathlib.Core.Path.{◌≡◌, refl, sym, ◌∙◌}
 use mathlib.Core.Bool.{Bool, true, false}
 use lib.ListN.{get_or}
-use borrow.Author.Rules.{rules}
 use Rattle.policy.specs.Lists.{same}
 use Rattle.deployment.specs.Values.{rule_bytes}
 use Rattle.iptables_reader.specs.Kept.{rule_at}
-use Rattle.iptables_reader.proofs.Keeping.{known_from, known_here, known_later, known_nowhere, other_mark}
+use Rattle.iptables_reader.proofs.Keeping.{known_here, known_later, known_nowhere, other_mark}
 use Rattle.iptables_reader.proofs.table.is_kept.Goals as goal
 use Rattle.iptables_reader.proofs.table.is_kept.Goals.{At-loop-k, Joined-else-marks-k, else-marks-k-via-then-marks-k+else-same_bytes, else-marks-k-via-else-marks-k}
 

@@ -1,7 +1,6 @@
 -- `record_at` meets its contract: the line that starts there goes up to the first line feed; where the listing has ended there is no rule. Assumes nothing.
 use native.Mathlib.Omega.{arith}
 use mathlib.Core.Path.{ap}
-use borrow.Author.Rules.{rules}
 use Rattle.iptables.specs.Words.{line_feed}
 use Rattle.iptables_words.proofs.Pieces.{piece_ends}
 use Rattle.iptables_lines.specs.Told.{read_told}

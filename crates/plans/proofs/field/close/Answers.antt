@@ -1,8 +1,7 @@
 -- `close` meets its contract: the four bytes stored are those of the head, and the plan counts them with the records. Assumes nothing.
-use Prim.Native.Nat.{◌+◌, ◌*◌, ◌/◌, ◌%◌}
+use Prim.Native.Nat.{◌+◌, ◌*◌, ◌%◌}
 use mathlib.Core.Path.{◌≡◌}
 use native.Mathlib.Omega.{arith}
-use borrow.Author.Rules.{rules}
 use Rattle.deployment.specs.Bytes.{bytes_of}
 use Rattle.plans.specs.Sending.{script_head}
 use Rattle.plans.specs.Plans.{plan_for}

@@ -1,5 +1,4 @@
 -- `put` meets its contract: the bytes of the record are stored at the command's place. Assumes nothing.
-use borrow.Author.Rules.{rules}
 use Rattle.plans.proofs.field.put.Goals as goal
 
 pub returns : goal.returns

@@ -1,8 +1,8 @@
 -- `can_stand` meets its contract: by the last tag, the tags that can stand after it. Assumes nothing.
 use native.Mathlib.Omega.{arith}
-use mathlib.Core.Path.{◌≡◌, sym, ◌∙◌}
+use mathlib.Core.Path.{◌≡◌, ◌∙◌}
 use mathlib.Core.List.{[], ◌∷◌}
-use borrow.Author.Tests.{ne_eqb, eqb-true, eqb-false}
+use borrow.Author.Tests.{ne_eqb}
 use Rattle.policy.specs.Lists.{mem}
 use Rattle.deployment.specs.File.{tags_after}
 use Rattle.reader.proofs.Heads.{first_tag, later_tag, second_tag, only_tag}

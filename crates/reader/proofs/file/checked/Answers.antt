@@ -1,7 +1,6 @@
 -- `checked` meets its contract: the test that the tag names is the definition's, over the catalogue and the policies that the file's
 -- first bytes hold. Assumes nothing.
 use mathlib.Core.Path.{◌∙◌}
-use borrow.Author.Rules.{rules}
 use Rattle.deployment.specs.Catalogue.{catalogue_of}
 use Rattle.catalogue.proofs.Catalogue.{nothing_missed}
 use Rattle.reader.proofs.Checks.{checked_rule, checked_policy, checked_default, checked_keep, checked_script}

@@ -2,7 +2,6 @@
 -- Assumes nothing.
 use mathlib.Core.Path.{sym, ◌∙◌}
 use Rattle.reader.proofs.Heads.{head_cut, head_tag, head_too_many, head_length, head_short, head_whole}
-use borrow.Author.Rules.{rules}
 use Rattle.reader.proofs.file.field_head.Goals as goal
 
 pub returns-then-left-lt-HEAD_BYTES : goal.returns-then-left-lt-HEAD_BYTES

@@ -5,7 +5,6 @@ use borrow.Author.Tests.{ne_eqb}
 use Rattle.policy.proofs.Tests.{by_test}
 use Rattle.deployment.specs.Values.{script_fits}
 use Rattle.deployment.specs.File.{length_fits}
-use borrow.Author.Rules.{rules}
 use Rattle.reader.proofs.file.length_fits.Goals as goal
 
 pub returns-then-tag-eq-RULE_TAG : goal.returns-then-tag-eq-RULE_TAG

@@ -2,7 +2,6 @@
 use native.Mathlib.Omega.{arith}
 use mathlib.Core.Path.{◌≡◌, sym, ◌∙◌}
 use lib.ListN.{drop}
-use borrow.Author.Rules.{rules}
 use Rattle.deployment.specs.Checked.{good}
 use Rattle.deployment.specs.File.{Fields, field_read}
 use Rattle.deployment.proofs.Bytes.{elements_are_bytes}

@@ -10,7 +10,6 @@ use Rattle.reader.proofs.OneMore.{
 }
 use Prim.Native.Nat.{ℕ}
 use mathlib.Core.Path.{subst}
-use borrow.Author.Rules.{rules}
 use Rattle.deployment.specs.File.{last_tag}
 use Rattle.deployment.proofs.Fields.{script_left_lem}
 use Rattle.reader.specs.Steps.{More}

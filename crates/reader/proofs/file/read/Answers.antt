@@ -1,11 +1,9 @@
 -- `read` meets its contract. The loop's invariant: some fields have been read from the file's first bytes, and the progress is what
 -- the reader knows of them. The measure is what is left of the file. Assumes nothing.
-use Prim.Native.Nat.{ℕ, ◌-◌, ◌<◌}
+use Prim.Native.Nat.{ℕ, ◌<◌}
 use native.Mathlib.Omega.{arith}
 use mathlib.Core.Path.{sym, ◌∙◌}
 use mathlib.Core.List.{List}
-use lib.ListN.{length}
-use borrow.Author.Rules.{rules}
 use Rattle.deployment.specs.File.{Fields, nothing}
 use Rattle.deployment.specs.Properties.{AreBytes}
 use Rattle.deployment.proofs.Bytes.{elements_are_bytes}

@@ -1,6 +1,5 @@
 -- `read_to_judge` meets its contract: what `read` answers, refused where the layout has no script. Assumes nothing.
 use mathlib.Core.Path.{refl, sym, ◌∙◌}
-use borrow.Author.Rules.{rules}
 use Rattle.policy.proofs.Tests.{fails, passes}
 use Rattle.reader.proofs.ToJudge.{refused_too, no_script, has_script}
 use Rattle.reader.proofs.file.read_to_judge.Goals as goal

@@ -1,6 +1,5 @@
 -- `value` meets its contract: what there is of the part. Assumes nothing.
 use Rattle.reader.proofs.ValuePlaces.{cut_least}
-use borrow.Author.Rules.{rules}
 use Rattle.reader.proofs.file.value.Goals as goal
 
 pub returns : goal.returns

@@ -3,7 +3,6 @@ use mathlib.Core.Path.{refl, ◌∙◌, ap}
 use Rattle.running.specs.Running.{view, appended}
 use Rattle.replay.specs.Stepping.{step_left, step_shown, cleared, changed_from}
 use Rattle.replay.proofs.Settled.{settles}
-use borrow.Author.Rules.{rules}
 use Rattle.replay.proofs.Replaying.appended.Goals as goal
 
 pub returns : goal.returns

@@ -4,7 +4,6 @@ use native.Mathlib.Omega.{arith}
 use mathlib.Core.Path.{◌≡◌, refl, ◌∙◌, ap}
 use Rattle.replay.specs.Stepping.{step_left, step_shown, cleared, changed_from}
 use Rattle.replay.proofs.Settled.{settles}
-use borrow.Author.Rules.{rules}
 use Rattle.replay.proofs.Replaying.moved.Goals as goal
 use Rattle.replay.proofs.Replaying.moved.Goals.{then-i-j, else-i-j}
 

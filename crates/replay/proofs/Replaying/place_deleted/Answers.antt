@@ -4,7 +4,6 @@ use lib.ListN.{set}
 use mathlib.Core.Path.{◌∙◌, ap}
 use Rattle.replay.specs.Stepping.{step_left, step_shown, cleared, changed_from}
 use Rattle.replay.proofs.Settled.{settles}
-use borrow.Author.Rules.{rules}
 use Rattle.replay.proofs.Replaying.place_deleted.Goals as goal
 
 pub returns : goal.returns

@@ -4,7 +4,6 @@ use mathlib.Core.Path.{◌∙◌, ap}
 use Rattle.running.specs.Running.{view, rule_deleted}
 use Rattle.replay.specs.Stepping.{step_left, step_shown, cleared, changed_from}
 use Rattle.replay.proofs.Settled.{settles}
-use borrow.Author.Rules.{rules}
 use Rattle.replay.proofs.Replaying.rule_deleted.Goals as goal
 
 pub returns : goal.returns

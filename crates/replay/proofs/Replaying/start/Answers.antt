@@ -2,7 +2,6 @@
 use mathlib.Core.Path.{refl, ◌∙◌, ap}
 use Rattle.running.specs.Running.{view}
 use Rattle.places.specs.Places.{renumbered}
-use borrow.Author.Rules.{rules}
 use Rattle.replay.proofs.Replaying.start.Goals as goal
 
 pub returns : goal.returns

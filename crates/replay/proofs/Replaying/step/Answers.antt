@@ -1,5 +1,4 @@
 -- `step` leaves what the definition says, each command by its own method. Assumes nothing.
-use borrow.Author.Rules.{rules}
 use Rattle.replay.proofs.Replaying.step.Goals as goal
 
 pub returns-in-App : goal.returns-in-App

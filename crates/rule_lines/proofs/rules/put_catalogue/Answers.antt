@@ -3,7 +3,6 @@ use Rattle.catalogue.proofs.Rules.{first_count}
 use Rattle.lines.specs.Text.{text, named}
 use Rattle.rule_lines.specs.Text.{catalogue_text}
 use Rattle.rule_lines.proofs.Joined.{puts_joined}
-use borrow.Author.Rules.{rules}
 use Rattle.rule_lines.proofs.rules.put_catalogue.Goals as goal
 
 pub returns : goal.returns

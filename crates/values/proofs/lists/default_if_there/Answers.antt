@@ -1,5 +1,4 @@
 -- `default_if_there` meets its contract: a default that is there is tested, and an absent one passes. Assumes nothing.
-use borrow.Author.Rules.{rules}
 use Rattle.deployment.specs.FieldValues.{default_value}
 use Rattle.catalogue.specs.Answers.{checking}
 use Rattle.values.specs.Answers.{given}

@@ -1,5 +1,4 @@
 -- `keep_if_there` meets its contract: a keep list that is there is tested, and an absent one passes. Assumes nothing.
-use borrow.Author.Rules.{rules}
 use Rattle.deployment.specs.FieldValues.{keep_value}
 use Rattle.catalogue.specs.Answers.{checking}
 use Rattle.values.specs.Answers.{given}

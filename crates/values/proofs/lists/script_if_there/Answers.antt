@@ -1,5 +1,4 @@
 -- `script_if_there` meets its contract: a script that is there is tested, and an absent one passes. Assumes nothing.
-use borrow.Author.Rules.{rules}
 use Rattle.deployment.specs.FieldValues.{script_value}
 use Rattle.catalogue.specs.Answers.{checking}
 use Rattle.values.specs.Answers.{given}
