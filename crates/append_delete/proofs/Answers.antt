@@ -1,9 +1,11 @@
 -- Any two answers that the planner allows are equal, with every byte of the place, by its contract as the checker reads it. Assumes nothing.
 use mathlib.Core.Path.{◌≡◌}
 use Rattle.deployment.proofs.Lent.{same_left}
-use Rattle.plans.specs.declared.Planned.{Planned}
+use Rattle.std.specs.Prelude.{Result}
+use Rattle.plans.specs.declared.Plan.{Plan}
+use Rattle.deployment.specs.declared.Refusal.{Refusal}
 use Rattle.append_delete.proofs.plan_one.Reads as plan
 
-pub one_plan_of_type_one : (κ : _) (a : _) (r s : Planned) (e f : _) → plan.Post κ a r e → plan.Post κ a s f
+pub one_plan_of_type_one : (κ : _) (a : _) (r s : Result Plan Refusal) (e f : _) → plan.Post κ a r e → plan.Post κ a s f
     → (r ≡ s) × (e.1.1.0.now ≡ f.1.1.0.now)
 one_plan_of_type_one κ a r s e f p q = same_left p q

@@ -81,12 +81,11 @@ module _ (marks : List Bool) (l : List ℕ) (i : ℕ) (before : Marked marks (ta
   marks_out large = rw last (marks_past marks (take i l) (get_or l i 0) before large)
 
 -- The deletes: the last k rules are gone through, and n of them are not marked.
-pub record Deleting (marks : List Bool) (l : List ℕ) (rules : ℕ) (old field : List ℕ) (n k : ℕ) : Type 0 where
-  pub all : rules ≡ length l
-  pub passed : k ≤ rules
-  pub few : n ≤ k
-  pub counted : n ≡ length (deletes marks (drop (rules - k) l))
-  pub sent : Sent old 0 (deletes marks (drop (rules - k) l)) field
+pub record Deleting (marks : List Bool) (l old field : List ℕ) (n i : ℕ) : Type 0 where
+  pub passed : i ≤ length l
+  pub few : n + i ≤ length l
+  pub counted : n ≡ length (deletes marks (drop i l))
+  pub sent : Sent old 0 (deletes marks (drop i l)) field
 
 pub inside_at : (l : List ℕ) (i top : ℕ) → ((r : ℕ) → In r l → r < top) → i < length l → get_or l i 0 < top
 inside_at (x ∷ l) zero top inside more = inside x (Memᴰ.head refl)
@@ -105,53 +104,45 @@ module _ (marks : List Bool) (x : ℕ) (l : List ℕ) where
   delete_none kept = rw kept
 
 module _ (marks : List Bool) (l old : List ℕ) where
-  pub deleting_none : length old ≡ 5124 → Deleting marks l (length l) old old 0 0
+  pub deleting_none : length old ≡ 5124 → Deleting marks l old old 0 (length l)
   unfolding deletes pick
   deleting_none long =
-      let end : drop (length l - 0) l ≡ [] = drop_of_length-le l {i = length l - 0} (omega arith) in
-      record { all = refl; passed = omega arith; few = omega arith; counted = rw end; sent = rw end (none_sent old 0 long (omega arith)) }
+      let end : drop (length l) l ≡ [] = drop_of_length-le l {i = length l} (omega arith) in
+      record { passed = omega arith; few = omega arith; counted = rw end; sent = rw end (none_sent old 0 long (omega arith)) }
 
-  module _ (rules : ℕ) (field : List ℕ) (n k : ℕ) (before : Deleting marks l rules old field n k) (more : k < rules) where
-    next : drop (rules - (k + 1)) l ≡ get_or l (rules - 1 - k) 0 ∷ drop (rules - k) l
-    next =
-        let here : rules - (k + 1) ≡ rules - 1 - k = omega arith in
-        let behind : rules - k ≡ suc (rules - 1 - k) = omega arith in
-        rw (here, behind) (drop-cons l (rules - 1 - k) 0 (omega (arith, before.all)))
+  module _ (field : List ℕ) (n i : ℕ) (before : Deleting marks l old field n (suc i)) where
+    next : drop i l ≡ get_or l i 0 ∷ drop (suc i) l
+    next = drop-cons l i 0 (omega (arith, before.passed))
 
-    pub deleting_one : (now : List ℕ) → rules ≤ 1024 → get_or marks (get_or l (rules - 1 - k) 0) false ≡ false
-        → now ≡ sets field (4 + 5 * n) (coded_bytes (coded (DelRule (get_or l (rules - 1 - k) 0))))
-        → Deleting marks l rules old now (n + 1) (k + 1)
+    pub deleting_one : (now : List ℕ) → length l ≤ 1024 → get_or marks (get_or l i 0) false ≡ false
+        → now ≡ sets field (4 + 5 * n) (coded_bytes (coded (DelRule (get_or l i 0))))
+        → Deleting marks l old now (n + 1) i
     deleting_one now small free stored =
-        let x = get_or l (rules - 1 - k) 0 in
-        let more_sent : deletes marks (drop (rules - (k + 1)) l) ≡ deletes marks (drop (rules - k) l) ++ (DelRule x ∷ []) =
-        ap (deletes marks) next ∙ delete_one marks x (drop (rules - k) l) free in
+        let x = get_or l i 0 in
+        let more_sent : deletes marks (drop i l) ≡ deletes marks (drop (suc i) l) ++ (DelRule x ∷ []) =
+        ap (deletes marks) next ∙ delete_one marks x (drop (suc i) l) free in
         record {
-          all = before.all;
-          passed = omega arith;
+          passed = omega (arith, before.passed);
           few = omega (arith, before.few);
-          counted = omega (arith, before.counted, ap length more_sent, length-append (deletes marks (drop (rules - k) l)) (DelRule x ∷ []));
+          counted = omega (arith, before.counted, ap length more_sent, length-append (deletes marks (drop (suc i) l)) (DelRule x ∷ []));
           sent =
               rw more_sent
               (put_sent n (DelRule x) before.sent (omega (arith, before.counted)) (omega (arith, before.few)) stored);
         }
 
-    pub deleting_next : get_or marks (get_or l (rules - 1 - k) 0) false ≡ true → Deleting marks l rules old field n (k + 1)
+    pub deleting_next : get_or marks (get_or l i 0) false ≡ true → Deleting marks l old field n i
     deleting_next kept =
-        let same : deletes marks (drop (rules - (k + 1)) l) ≡ deletes marks (drop (rules - k) l) =
-        ap (deletes marks) next ∙ delete_none marks (get_or l (rules - 1 - k) 0) (drop (rules - k) l) kept in
+        let same : deletes marks (drop i l) ≡ deletes marks (drop (suc i) l) =
+        ap (deletes marks) next ∙ delete_none marks (get_or l i 0) (drop (suc i) l) kept in
         record {
-          all = before.all;
-          passed = omega arith;
+          passed = omega (arith, before.passed);
           few = omega (arith, before.few);
           counted = rw same before.counted;
           sent = rw same before.sent;
         }
 
-  pub deleting_all : (rules : ℕ) (field : List ℕ) (n k : ℕ) → Deleting marks l rules old field n k → rules ≤ k
-      → (n ≡ length (deletes marks l)) × Sent old 0 (deletes marks l) field
-  deleting_all rules field n k done all =
-      let whole : rules - k ≡ 0 = omega arith in
-      (rw whole at done.counted, rw whole at done.sent)
+  pub deleting_all : (field : List ℕ) (n : ℕ) → Deleting marks l old field n 0 → (n ≡ length (deletes marks l)) × Sent old 0 (deletes marks l) field
+  deleting_all field n done = (done.counted, done.sent)
 
 pub length_appends : (kept : ℕ) (target : List ℕ) → length (appends kept target) ≡ length target - kept
 unfolding appends

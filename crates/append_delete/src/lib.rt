@@ -9,14 +9,15 @@ ghost use Rattle.policy.specs.Policy.{most_rules, most_listed};
 ghost use Rattle.policy.specs.Properties.{In};
 ghost use Rattle.policy.specs.Claims.{Admitted};
 ghost use Rattle.deployment.specs.Values.{numbers_of};
-ghost use Rattle.plans.specs.Sending.{Sent, most_planned, field_width};
+ghost use Rattle.plans.specs.Sending.{Sent, most_planned};
 ghost use Rattle.append_delete.specs.DeletesAppends.{deletes, appends};
 ghost use Rattle.plans.specs.Plans.{made_one_of, Placed, placed_plan};
 ghost use Rattle.deployment.specs.FieldValues.{left_by};
 
+use deployment::Refusal;
 use format::{listed, number_at};
 use plans::field::{FIELD_BYTES, close, put};
-use plans::{Plan, Planned, send};
+use plans::{Plan, send};
 use policy::{Command, MOST_RULES};
 
 // "Kept: the longest run from the front of the target whose rules occur in the same order in the initial policy": how many they are.
@@ -26,6 +27,7 @@ fn kept_run(initial: &[u8], target: &[u8]) -> usize
     let rules = listed(initial);
     let wanted = listed(target);
     let mut kept = 0;
+    // Kept: here and below rules are counted, since a list's numbers are read from its bytes by their index; no slice has them.
     for i in 0..rules {
         if kept < wanted {
             if number_at(initial, i) == number_at(target, kept) {
@@ -52,15 +54,14 @@ fn marked(list: &[u8], count: usize) -> [bool; MOST_RULES]
 }
 
 // "Delete the initial rules that are not kept, last to first": sends them, and answers how many they are.
-fn send_deletes(initial: &[u8], marks: [bool; MOST_RULES], field: &mut [u8]) -> u16
-    requires { (length field.old ≡ field_width) × (length (numbers_of initial.now) ≤ most_rules) × ((r : ℕ) → In r (numbers_of initial.now) → r < most_rules) }
+fn send_deletes(initial: &[u8], marks: [bool; MOST_RULES], field: &mut [u8; FIELD_BYTES]) -> u16
+    requires { (length (numbers_of initial.now) ≤ most_rules) × ((r : ℕ) → In r (numbers_of initial.now) → r < most_rules) }
     ensures { (result ≡ length (deletes marks (numbers_of initial.now)))
         × Sent field.old 0 (deletes marks (numbers_of initial.now)) field.new }
 {
     let rules = listed(initial);
     let mut n = 0u16;
-    for k in 0..rules {
-        let i = rules - 1 - k;
+    for i in (0..rules).rev() {
         let r = number_at(initial, i);
         if !marks[r as usize] {
             put(field, n, Command::DelRule(r));
@@ -71,8 +72,8 @@ fn send_deletes(initial: &[u8], marks: [bool; MOST_RULES], field: &mut [u8]) -> 
 }
 
 // "Then append the rest of the target in order": sends it behind the commands sent before, and answers how many there are now.
-fn send_appends(target: &[u8], kept: usize, before: u16, field: &mut [u8]) -> u16
-    requires { (length field.old ≡ field_width) × (kept ≤ length (numbers_of target.now)) × (before + (length (numbers_of target.now) - kept) ≤ most_planned) }
+fn send_appends(target: &[u8], kept: usize, before: u16, field: &mut [u8; FIELD_BYTES]) -> u16
+    requires { (kept ≤ length (numbers_of target.now)) × (before + (length (numbers_of target.now) - kept) ≤ most_planned) }
     ensures { (result ≡ before + length (appends kept (numbers_of target.now)))
         × Sent field.old before (appends kept (numbers_of target.now)) field.new }
 {
@@ -86,9 +87,8 @@ fn send_appends(target: &[u8], kept: usize, before: u16, field: &mut [u8]) -> u1
 }
 
 // The plan for two policies, in a place for the longest field.
-fn made_one(initial: &[u8], target: &[u8], field: &mut [u8]) -> Plan
-    requires { Admitted most_rules (numbers_of initial.now) × (length (numbers_of initial.now) ≤ most_listed) × (length (numbers_of target.now) ≤ most_listed)
-        × (length field.old ≡ field_width) }
+fn made_one(initial: &[u8], target: &[u8], field: &mut [u8; FIELD_BYTES]) -> Plan
+    requires { Admitted most_rules (numbers_of initial.now) × (length (numbers_of initial.now) ≤ most_listed) × (length (numbers_of target.now) ≤ most_listed) }
     ensures { Placed (made_one_of (numbers_of initial.now) (numbers_of target.now)) result field.old field.new }
 {
     let kept = kept_run(initial, target);
@@ -99,7 +99,7 @@ fn made_one(initial: &[u8], target: &[u8], field: &mut [u8]) -> Plan
 }
 
 // The plan for two policies that the reader accepts, in the lent place.
-pub fn plan_one(initial: &[u8], target: &[u8], place: &mut [u8]) -> Planned
+pub fn plan_one(initial: &[u8], target: &[u8], place: &mut [u8]) -> Result<Plan, Refusal>
     requires { Admitted most_rules (numbers_of initial.now) × (length (numbers_of initial.now) ≤ most_listed) × (length (numbers_of target.now) ≤ most_listed) }
     ensures { left_by result place.new ≡ placed_plan (made_one_of (numbers_of initial.now) (numbers_of target.now)) place.old }
 {

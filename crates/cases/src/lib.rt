@@ -5,11 +5,10 @@
 
 ghost use Rattle.std.specs.Prelude.{◌≡◌, ◌≤◌, ◌-◌, length, take};
 
-use deployment::{Refusal, Written};
+use deployment::Refusal;
 use format::two;
-use numbers::why_number;
 use reader::file::value;
-use reader::{FileRead, Span};
+use reader::{Layout, Span};
 use std::env::{Env, FillError};
 use std::fs;
 use std::io::Read;
@@ -56,6 +55,7 @@ fn read_full<R: Read>(input: &mut R, place: &mut [u8]) -> usize
     ensures { result ≤ length place.new }
 {
     let mut done = 0;
+    // Kept: a turn goes on behind as many bytes as came.
     while done < place.len() {
         let n = input.read(&mut place[done..]).unwrap_or(0);
         if n == 0 {
@@ -91,6 +91,17 @@ pub fn read_argument<R: Env + Files + Print>(rt: &R, i: usize, place: &mut [u8])
     read_named(rt, &name[..n], place)
 }
 
+// Prints each argument, the name of a file, and what is made of the file, as much as is read.
+pub fn each_file<R: Env + Files + Print, F: Fn(&[u8])>(rt: &R, print_file: F)
+    requires { F.IsAlwaysCallable print_file }
+{
+    for i in 1..argument_count(rt) {
+        let mut file = [0u8; MOST_READ];
+        let got = read_argument(rt, i, &mut file);
+        print_file(&file[..got]);
+    }
+}
+
 // The length at the head of a row; 0 where there is none.
 fn first_size(row: &[u8]) -> u16 {
     if row.len() < LENGTH_BYTES {
@@ -116,6 +127,11 @@ pub fn bytes_at<'a>(row: &'a [u8], at: usize) -> &'a [u8] {
     )
 }
 
+// Bytes that may be absent, as a case has them: with a flag beside them.
+pub fn given(is: bool, bytes: &[u8]) -> Option<&[u8]> {
+    if is { Some(bytes) } else { None }
+}
+
 // The place behind these bytes, further on while the row lasts.
 pub fn next_place(row: &[u8], at: usize) -> usize
     ensures { length row.now - result ≤ length row.now - at - 1 }
@@ -131,6 +147,18 @@ pub fn next_place(row: &[u8], at: usize) -> usize
     at + size
 }
 
+// Takes the cases of a row one after another.
+pub fn each_case<F: Fn(&[u8])>(row: &[u8], print_case: F)
+    requires { F.IsAlwaysCallable print_case }
+{
+    let mut at = 0;
+    // Kept: a turn goes on behind a case, which says itself how long it is.
+    while at < row.len() {
+        print_case(bytes_at(row, at));
+        at = next_place(row, at);
+    }
+}
+
 // A checksum with one more byte.
 fn summed(sum: u32, byte: u8, wide: bool) -> u32 {
     let more = sum as u64 * BASE + byte as u64;
@@ -142,13 +170,7 @@ fn summed(sum: u32, byte: u8, wide: bool) -> u32 {
 
 // The checksum of bytes: in four bytes where it is to be wide, else in two.
 pub fn checksum(bytes: &[u8], wide: bool) -> u32 {
-    let mut sum = 1;
-    let mut i = 0;
-    while i < bytes.len() {
-        sum = summed(sum, bytes[i], wide);
-        i += 1;
-    }
-    sum
+    bytes.iter().fold(1, |sum, byte| summed(sum, *byte, wide))
 }
 
 // A room for any answer, all of whose bytes are the same.
@@ -159,14 +181,7 @@ pub fn filled(byte: u8) -> [u8; 65536]
 }
 
 fn is_filled(room: &[u8], byte: u8) -> bool {
-    let mut i = 0;
-    while i < room.len() {
-        if room[i] != byte {
-            return false;
-        }
-        i += 1;
-    }
-    true
+    room.iter().all(|b| *b == byte)
 }
 
 // Prints whether the bytes of a room are as they were.
@@ -184,31 +199,31 @@ pub fn print_number<R: Print>(rt: &R, word: &[u8], n: usize) {
 }
 
 pub fn print_refusal<R: Print>(rt: &R, refusal: Refusal) {
-    let why = refusal.why;
-    print_number(rt, b"refused ", why_number(why) as usize);
+    print_number(rt, b"refused ", u8::from(refusal.why) as usize);
     print_number(rt, b" at ", refusal.at);
 }
 
-fn print_span<R: Print>(rt: &R, word: &[u8], there: bool, span: Span) {
+fn print_span<R: Print>(rt: &R, word: &[u8], span: Option<Span>) {
     print_bytes(rt, word);
-    if there {
-        print_number(rt, b" ", span.start);
-        print_number(rt, b" ", span.size);
-    } else {
-        print_bytes(rt, b" none");
+    match span {
+        Some(span) => {
+            print_number(rt, b" ", span.start);
+            print_number(rt, b" ", span.size);
+        }
+        None => print_bytes(rt, b" none"),
     }
 }
 
 // What was answered and left in a room, whose first bytes were lent: the refusal, or the bytes that were written, as they are; and whether the others
 // are as they were.
-pub fn print_answer<R: Print>(rt: &R, answer: Written, room: &[u8], byte: u8) {
+pub fn print_answer<R: Print>(rt: &R, answer: Result<usize, Refusal>, room: &[u8], byte: u8) {
     match answer {
-        Written::Turned(refusal) => {
+        Err(refusal) => {
             print_bytes(rt, b" ");
             print_refusal(rt, refusal);
             print_kept(rt, room, byte);
         }
-        Written::Bytes(n) => {
+        Ok(n) => {
             let size = room.len();
             print_number(rt, b" wrote ", n);
             print_kept(rt, value(room, Span { start: n, size }), byte);
@@ -220,23 +235,18 @@ pub fn print_answer<R: Print>(rt: &R, answer: Written, room: &[u8], byte: u8) {
 }
 
 // What is read of a file: the refusal, or where its values stand.
-pub fn print_reading<R: Print>(rt: &R, reading: FileRead) {
+pub fn print_reading<R: Print>(rt: &R, reading: Result<Layout, Refusal>) {
     match reading {
-        FileRead::Refused(refusal) => {
+        Err(refusal) => {
             print_refusal(rt, refusal);
         }
-        FileRead::Accepted(layout) => {
-            let initial = layout.initial;
-            let target = layout.target;
-            let default = layout.default;
-            let keep = layout.keep;
-            let script = layout.script;
+        Ok(layout) => {
             print_number(rt, b"rules ", layout.rules);
-            print_span(rt, b" initial", true, initial);
-            print_span(rt, b" target", true, target);
-            print_span(rt, b" default", layout.has_default, default);
-            print_span(rt, b" keep", layout.has_keep, keep);
-            print_span(rt, b" script", layout.has_script, script);
+            print_span(rt, b" initial", Some(layout.initial));
+            print_span(rt, b" target", Some(layout.target));
+            print_span(rt, b" default", layout.default);
+            print_span(rt, b" keep", layout.keep);
+            print_span(rt, b" script", layout.script);
         }
     }
     print_bytes(rt, b"\n");

@@ -6,21 +6,21 @@ use mathlib.Core.List.{List}
 use lib.ListN.{length, get_or}
 use Rattle.deployment.proofs.Numbers.{why_numbers_differ}
 use Rattle.catalogue.specs.Answers.{checking_numbers, CheckingNumbersDiffer}
-use Rattle.catalogue.specs.declared.Checking.{Checking}
-use Rattle.catalogue.specs.declared.Checking.TheVariants.{Good, Bad}
+use Rattle.std.specs.Prelude.{Result, Ok, Err}
+use Rattle.deployment.specs.declared.Why.{Why}
 use Rattle.catalogue.proofs.rule_checked.Reads as rule-checked
 use Rattle.catalogue.proofs.catalogue_checked.Reads as catalogue-checked
 
 pub checking_numbers_differ : CheckingNumbersDiffer
 unfolding checking_numbers
-checking_numbers_differ Good Good e = refl
-checking_numbers_differ Good (Bad why) e = absurd (omega (arith, ap length e))
-checking_numbers_differ (Bad why) Good e = absurd (omega (arith, ap length e))
-checking_numbers_differ (Bad why) (Bad other) e = ap Bad (why_numbers_differ why other (ap (λ (numbers : List ℕ). get_or numbers 0 0) e))
+checking_numbers_differ (Ok a) (Ok b) e = refl
+checking_numbers_differ (Ok a) (Err why) e = absurd (omega (arith, ap length e))
+checking_numbers_differ (Err why) (Ok a) e = absurd (omega (arith, ap length e))
+checking_numbers_differ (Err why) (Err other) e = ap Err (why_numbers_differ why other (ap (λ (numbers : List ℕ). get_or numbers 0 0) e))
 
-pub one_rule : (κ : _) (a : _) (r s : Checking) (e f : _) → rule-checked.Post κ a r e → rule-checked.Post κ a s f → r ≡ s
+pub one_rule : (κ : _) (a : _) (r s : Result Unit Why) (e f : _) → rule-checked.Post κ a r e → rule-checked.Post κ a s f → r ≡ s
 one_rule κ a r s e f p q = p ∙ sym q
 
-pub one_catalogue : (κ : _) (a : _) (r s : Checking) (e f : _) → catalogue-checked.Post κ a r e → catalogue-checked.Post κ a s f
+pub one_catalogue : (κ : _) (a : _) (r s : Result Unit Why) (e f : _) → catalogue-checked.Post κ a r e → catalogue-checked.Post κ a s f
     → r ≡ s
 one_catalogue κ a r s e f p q = p ∙ sym q

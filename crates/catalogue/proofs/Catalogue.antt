@@ -24,14 +24,14 @@ use Rattle.deployment.proofs.Bytes.{length_part, length_chunks}
 use Rattle.deployment.proofs.Records.{chunk_at, piece_fits, catalogue_length, rule_at_lem}
 use Rattle.deployment.proofs.Tests.{rule_tested}
 use Rattle.catalogue.specs.Answers.{checking, rule_value, compared_with}
-use Rattle.catalogue.specs.declared.Checking.TheVariants.{Good, Bad}
+use Rattle.std.specs.Prelude.{Result, Ok, Err}
 
-not_good : {A : Type 0} {why : Why} → Bad why ≡ Good → A
-not_good e = absurd (let z : ◌≡◌ {A = ℕ} 0 1 = cc in omega arith)
+not_good : {A : Type 0} {why : Why} → ◌≡◌ {A = Result (Unit {0}) Why} (Err why) (Ok tt) → A
+not_good e = absurd (cc)
 
 -- what comes after a test that turns away
-turned_away : {A B : Type 0} (r : Checked A) (next : A → Checked B) (why : Why) → checking r ≡ Bad why
-    → checking (◌>>=◌ r next) ≡ Bad why
+turned_away : {A B : Type 0} (r : Checked A) (next : A → Checked B) (why : Why) → checking r ≡ Err why
+    → checking (◌>>=◌ r next) ≡ Err why
 unfolding checking
 turned_away (good a) next why e = not_good (sym e)
 turned_away (bad other) next why e = e
@@ -42,11 +42,11 @@ unfolding rule_value
 rule_value_lem catalogue value long = rw (eq-eqb (length value) rule_width long)
 
 good_rule : (catalogue : List Rule) (value : List ℕ) (next : Rule → Checked (List Rule))
-    → checking (rule_read catalogue value) ≡ Good
+    → checking (rule_read catalogue value) ≡ Ok tt
     → checking (◌>>=◌ (rule_read catalogue value) next) ≡ checking (next (rule_of value))
 unfolding checking
 good_rule catalogue value next =
-    rule_tested (λ r. checking r ≡ Good → checking (◌>>=◌ r next) ≡ checking (next (rule_of value))) catalogue value
+    rule_tested (λ r. checking r ≡ Ok tt → checking (◌>>=◌ r next) ≡ checking (next (rule_of value))) catalogue value
     (λ w e. not_good e) (λ h w e. not_good e) (λ fits h e. refl)
 
 -- A rule that is said to differ from the earlier ones, and does, is answered as if it had been compared with them.
@@ -103,7 +103,7 @@ module _ (k : ℕ) (bytes : List ℕ) where
     tested =
         ap (λ r. checking r) (rule_value_lem (take k (catalogue_of 0 bytes)) (part (k * rule_width) rule_width bytes) piece_long)
 
-    pub read_further : checking (rule_value (take k (catalogue_of 0 bytes)) (part (k * rule_width) rule_width bytes)) ≡ Good
+    pub read_further : checking (rule_value (take k (catalogue_of 0 bytes)) (part (k * rule_width) rule_width bytes)) ≡ Ok tt
         → checking (read_on k bytes) ≡ checking (read_on (k + 1) bytes)
     unfolding rules_read
     read_further e =
@@ -114,8 +114,8 @@ module _ (k : ℕ) (bytes : List ℕ) where
         (sym tested ∙ e))
 
     pub read_stops : (why : Why)
-        → checking (rule_value (take k (catalogue_of 0 bytes)) (part (k * rule_width) rule_width bytes)) ≡ Bad why
-        → checking (read_on k bytes) ≡ Bad why
+        → checking (rule_value (take k (catalogue_of 0 bytes)) (part (k * rule_width) rule_width bytes)) ≡ Err why
+        → checking (read_on k bytes) ≡ Err why
     unfolding rules_read
     read_stops why e =
         rw pieces_on
@@ -124,7 +124,7 @@ module _ (k : ℕ) (bytes : List ℕ) where
         rules_read (take k (catalogue_of 0 bytes) ++ (rule ∷ [])) (drop (k + 1) (chunks rule_width (length bytes / rule_width) bytes)))
         why (sym tested ∙ e))
 
-  pub read_all : length bytes / rule_width ≤ k → checking (read_on k bytes) ≡ Good
+  pub read_all : length bytes / rule_width ≤ k → checking (read_on k bytes) ≡ Ok tt
   unfolding rules_read checking
   read_all h =
       rw (drop_of_length-le (chunks rule_width (length bytes / rule_width) bytes) {i = k}

@@ -33,10 +33,6 @@ mixed_further n bytes k h = rw (drop-cons bytes k 0 h, add-one k)
 abbrev pub first : List ℕ → ℕ
 first rule = cond (eqb (get_or rule 0 0) 1) 1 0
 
-pub first_of_none : (rule : List ℕ) → length rule ≡ 0 → 0 ≡ first rule
-first_of_none [] e = refl
-first_of_none (b ∷ rule) e = absurd (omega arith)
-
 pub first_small : (rule : List ℕ) → first rule ≤ 1
 first_small rule = by_test (eqb (get_or rule 0 0) 1) (λ t. rw t (omega arith)) (λ f. rw f (omega arith))
 

@@ -3,16 +3,25 @@
 use Prim.Native.Nat.{ℕ, ◌+◌, ◌≤◌, ◌<◌}
 use native.Mathlib.Numerals.{add-one}
 use mathlib.Core.Path.{◌≡◌, refl, sym, ap}
-use mathlib.Core.Bool.{true, false}
+use mathlib.Core.Bool.{true, false, ◌&&◌}
 use mathlib.Core.List.{List, [], ◌∷◌}
 use lib.ListN.{length, drop, get_or, drop_of_length-le}
 use lib.Seq.{drop-cons}
+use lib.Dec.{eqb}
+use lib.Pointwise.{pointwise}
 use borrow.Author.Tests.{eq-eqb, ne_eqb}
 use Rattle.policy.specs.Lists.{occurs, same}
 use Rattle.policy.proofs.Tests.{falsely}
 use Rattle.policy.proofs.Lists.{same_eq}
 
--- The same list.
+-- The same list: what `==` says of two slices.
+pub same_pairs : (a b : List ℕ) → pointwise eqb a b ≡ same a b
+unfolding same
+same_pairs [] [] = refl
+same_pairs [] (y ∷ b) = refl
+same_pairs (x ∷ a) [] = refl
+same_pairs (x ∷ a) (y ∷ b) = ap (λ t. eqb x y && t) (same_pairs a b)
+
 pub same_lengths : (a b : List ℕ) → ¬ (length a ≡ length b) → same a b ≡ false
 same_lengths a b h = falsely (λ t. h (ap length (same_eq a b t)))
 

@@ -14,42 +14,27 @@ use rule::{apart, rule_tested};
 
 pub mod rule;
 
-// Whether a value passes its tests.
-#[derive(Clone, Copy)]
-pub enum Checking {
-    Good,
-    Bad(Why),
-}
-
 // A rule, after the first `count` of the catalogue: 4, 5, 6. Where the bytes hold fewer, it is compared with all of them.
-pub fn rule_checked(rules: &[u8], skip: u8, count: usize, rule: &[u8]) -> Checking
+pub fn rule_checked(rules: &[u8], skip: u8, count: usize, rule: &[u8]) -> Result<(), Why>
     ensures { result ≡ checking (rule_value (take count (catalogue_of skip rules.now)) rule.now) }
 {
     rule_tested(rules, skip, count, rule, 0)
 }
 
 // The rules of a field value: 4, 7, then 5 and 6 rule by rule.
-pub fn catalogue_checked(rules: &[u8]) -> Checking
+pub fn catalogue_checked(rules: &[u8]) -> Result<(), Why>
     ensures { result ≡ checking (catalogue_value rules.now) }
 {
     if rules.len() % RULE_BYTES != 0 {
-        return Checking::Bad(Why::Length);
+        return Err(Why::Length);
     }
     if RULE_BYTES * MOST_RULES < rules.len() {
-        return Checking::Bad(Why::TooMany);
+        return Err(Why::TooMany);
     }
     let count = rules.len() / RULE_BYTES;
     let differing = apart(rules, 0);
-    let mut k = 0;
-    while k < count {
-        let c = rule_tested(rules, 0, k, record_at(rules, 0, k), differing);
-        match c {
-            Checking::Good => {}
-            Checking::Bad(_) => {
-                return c;
-            }
-        }
-        k += 1;
+    for k in 0..count {
+        rule_tested(rules, 0, k, record_at(rules, 0, k), differing)?;
     }
-    Checking::Good
+    Ok(())
 }

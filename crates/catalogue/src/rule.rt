@@ -8,9 +8,8 @@ ghost use Rattle.deployment.specs.Catalogue.{record_count, catalogue_of};
 ghost use Rattle.catalogue.specs.Answers.{checking, rule_value, compared_with};
 ghost use Rattle.catalogue.specs.RuleMarks.{mark, may_hold, with_tag, Apart};
 
-use super::Checking;
 use deployment::Why;
-use format::{RULE_BYTES, RULE_TAG, four_at, record_at, two_at};
+use format::{RULE_BYTES, RULE_TAG, number_of, record_at};
 use policy::MOST_RULES;
 
 // How a mark is made: a byte is added, then mixed in by a factor, and the high bits are kept.
@@ -30,18 +29,13 @@ const TAGS: usize = 254;
 const MANY: u8 = 255;
 
 // 5: "a low above its high" of a range, by its width in bytes.
-fn rises_two(rule: &[u8], at: usize) -> bool
-    requires { at + 4 ≤ length rule.now }
-    ensures { result ≡ rising (range_at at 2 rule.now) }
+fn rises<const WIDTH: usize>(rule: &[u8], at: usize) -> bool
+    requires small { WIDTH ≤ 4 }
+    requires inside { at + 2 * WIDTH ≤ length rule.now }
+    ensures { result ≡ rising (range_at at WIDTH rule.now) }
 {
-    two_at(rule, at) <= two_at(rule, at + 2)
-}
-
-fn rises_four(rule: &[u8], at: usize) -> bool
-    requires { at + 8 ≤ length rule.now }
-    ensures { result ≡ rising (range_at at 4 rule.now) }
-{
-    four_at(rule, at) <= four_at(rule, at + 4)
+    let high = at + WIDTH;
+    number_of(&rule[at..high]) <= number_of(&rule[high..high + WIDTH])
 }
 
 // 5: "action above 1, or a low above its high"
@@ -50,28 +44,11 @@ fn rule_fits(rule: &[u8]) -> bool
     ensures { result ≡ rule_fits rule.now }
 {
     rule[0] <= 1
-        && rule[1] <= rule[2]
-        && rises_four(rule, 3)
-        && rises_two(rule, 11)
-        && rises_four(rule, 15)
-        && rises_two(rule, 23)
-}
-
-// Whether two parts have the same bytes; left at the first that differs.
-pub fn same_bytes(a: &[u8], b: &[u8]) -> bool
-    ensures { result ≡ same a.now b.now }
-{
-    if a.len() != b.len() {
-        return false;
-    }
-    let mut k = 0;
-    while k < a.len() {
-        if a[k] != b[k] {
-            return false;
-        }
-        k += 1;
-    }
-    true
+        && rises::<1>(rule, 1)
+        && rises::<4>(rule, 3)
+        && rises::<2>(rule, 11)
+        && rises::<4>(rule, 15)
+        && rises::<2>(rule, 23)
 }
 
 // "equal in all fields and action"
@@ -82,15 +59,14 @@ fn same_rule(a: &[u8], b: &[u8]) -> bool
     if (a[0] == 1) != (b[0] == 1) {
         return false;
     }
-    same_bytes(&a[1..], &b[1..])
+    a[1..] == b[1..]
 }
 
 // How many rules the bytes hold, `skip` bytes before each, and no more than `most`.
 fn records(rules: &[u8], skip: u8, most: usize) -> usize
     ensures { result ≡ min most (record_count skip rules.now) }
 {
-    let there = rules.len() / (skip as usize + RULE_BYTES);
-    if most < there { most } else { there }
+    most.min(rules.len() / (skip as usize + RULE_BYTES))
 }
 
 // 6: whether one of the first `count` rules equals the given one.
@@ -98,12 +74,10 @@ fn is_known(rules: &[u8], skip: u8, count: usize, rule: &[u8]) -> bool
     requires { (length rule.now ≡ 27) × (count ≤ record_count skip rules.now) }
     ensures { result ≡ known (rule_of rule.now) (take count (catalogue_of skip rules.now)) }
 {
-    let mut k = 0;
-    while k < count {
+    for k in 0..count {
         if same_rule(record_at(rules, skip, k), rule) {
             return true;
         }
-        k += 1;
     }
     false
 }
@@ -120,13 +94,10 @@ fn known_if(rules: &[u8], skip: u8, count: usize, rule: &[u8], suspect: bool) ->
 fn action_mark(rule: &[u8]) -> usize
     ensures { result ≡ cond (eqb (get_or rule.now 0 0) 1) 1 0 }
 {
-    if rule.len() == 0 {
-        return 0;
+    match rule.first() {
+        Some(1) => 1,
+        _ => 0,
     }
-    if rule[0] == 1 {
-        return 1;
-    }
-    0
 }
 
 // The mark of a rule, made of its action and the bytes behind it: for speed alone. Bytes that aren't a rule have a mark too.
@@ -134,10 +105,8 @@ pub fn mark_of(rule: &[u8]) -> usize
     ensures { (result ≡ mark rule.now) × (result < 2097152) }
 {
     let mut mixed = action_mark(rule);
-    let mut k = 1;
-    while k < rule.len() {
+    for k in 1..rule.len() {
         mixed = (mixed + rule[k] as usize) * FACTOR % MIXED;
-        k += 1;
     }
     mixed / KEPT
 }
@@ -179,8 +148,7 @@ pub fn apart(rules: &[u8], skip: u8) -> usize
 {
     let top = records(rules, skip, MOST_RULES);
     let mut cells = [0u8; PLACES];
-    let mut k = 0;
-    while k < top {
+    for k in 0..top {
         if other_field(rules, skip, k) {
             return k;
         }
@@ -193,25 +161,30 @@ pub fn apart(rules: &[u8], skip: u8) -> usize
             return k;
         }
         cells[place] = with_tag(cell, tag);
-        k += 1;
     }
-    k
+    top
 }
 
 // A rule, after the first `count` of the catalogue: 4, 5, 6. Where the bytes hold fewer, it is compared with all of them; where `count`
 // is below `differing`, with none.
-pub fn rule_tested(rules: &[u8], skip: u8, count: usize, rule: &[u8], differing: usize) -> Checking
+pub fn rule_tested(
+    rules: &[u8],
+    skip: u8,
+    count: usize,
+    rule: &[u8],
+    differing: usize,
+) -> Result<(), Why>
     ensures { result ≡ checking (rule_value (compared_with count differing (catalogue_of skip rules.now)) rule.now) }
 {
     if rule.len() != RULE_BYTES {
-        return Checking::Bad(Why::Length);
+        return Err(Why::Length);
     }
     if !rule_fits(rule) {
-        return Checking::Bad(Why::Bounds);
+        return Err(Why::Bounds);
     }
     let top = records(rules, skip, count);
     if known_if(rules, skip, top, rule, differing <= count) {
-        return Checking::Bad(Why::Equal);
+        return Err(Why::Equal);
     }
-    Checking::Good
+    Ok(())
 }

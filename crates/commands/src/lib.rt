@@ -9,7 +9,6 @@ ghost use Rattle.policy.specs.Command.{coded, codes_of, is_type};
 ghost use Rattle.deployment.specs.Values.{command_of, command_from, coded_bytes};
 ghost use Rattle.deployment.specs.Commands.{command_count, command_at, decoded};
 
-use deployment::Decoded;
 use format::{COMMAND_BYTES, two_at};
 use policy::Command;
 
@@ -41,32 +40,26 @@ pub fn is_type(kind: u8) -> bool
 }
 
 // The command of a code; a number that isn't used is 0.
-fn command_of(code: u8, one: u16, two: u16) -> Decoded
+#[tactic(auto, unfolding(deployment::specs::Values::command_of, deployment::specs::Commands::decoded))]
+fn command_of(code: u8, one: u16, two: u16) -> Option<Command>
     ensures { result ≡ decoded (command_of (record { code = code; one = one; two = two })) }
 {
-    if code == Command::INS {
-        return Decoded::Is(Command::Ins(one, two));
-    }
-    if code == Command::MOV {
-        return Decoded::Is(Command::Mov(one, two));
-    }
-    if two != 0 {
-        return Decoded::Wrong;
-    }
-    match code {
-        Command::APP => Decoded::Is(Command::App(one)),
-        Command::DEL_RULE => Decoded::Is(Command::DelRule(one)),
-        Command::DEL_PLACE => Decoded::Is(Command::DelPlace(one)),
-        _ => Decoded::Wrong,
+    match (code, two) {
+        (Command::INS, _) => Some(Command::Ins(one, two)),
+        (Command::MOV, _) => Some(Command::Mov(one, two)),
+        (Command::APP, 0) => Some(Command::App(one)),
+        (Command::DEL_RULE, 0) => Some(Command::DelRule(one)),
+        (Command::DEL_PLACE, 0) => Some(Command::DelPlace(one)),
+        _ => None,
     }
 }
 
 // The command of a script of the given type.
-pub fn decode(kind: u8, code: u8, one: u16, two: u16) -> Decoded
+pub fn decode(kind: u8, code: u8, one: u16, two: u16) -> Option<Command>
     ensures { result ≡ decoded (command_from kind (record { code = code; one = one; two = two })) }
 {
     if !allows(kind, code) {
-        return Decoded::Wrong;
+        return None;
     }
     command_of(code, one, two)
 }
@@ -75,18 +68,15 @@ pub fn decode(kind: u8, code: u8, one: u16, two: u16) -> Decoded
 pub fn commands(script: &[u8]) -> usize
     ensures { result ≡ command_count script.now }
 {
-    if script.len() == 0 {
-        return 0;
-    }
-    (script.len() - 1) / COMMAND_BYTES
+    script.len().saturating_sub(1) / COMMAND_BYTES
 }
 
 // The k-th command of a script value, counted from 0.
-pub fn command_at(script: &[u8], k: usize) -> Decoded
+pub fn command_at(script: &[u8], k: usize) -> Option<Command>
     ensures { result ≡ decoded (command_at script.now k) }
 {
     if commands(script) <= k {
-        return Decoded::Wrong;
+        return None;
     }
     let at = 1 + COMMAND_BYTES * k;
     decode(
@@ -113,11 +103,7 @@ pub fn record_of(c: Command) -> [u8; 5]
 fn five(code: u8, one: u16, two: u16) -> [u8; 5]
     ensures { result ≡ coded_bytes (record { code = code; one = one; two = two }) }
 {
-    [
-        code,
-        (one / 256) as u8,
-        (one % 256) as u8,
-        (two / 256) as u8,
-        (two % 256) as u8,
-    ]
+    let ones = one.to_be_bytes();
+    let twos = two.to_be_bytes();
+    [code, ones[0], ones[1], twos[0], twos[1]]
 }

@@ -9,21 +9,22 @@ ghost use Rattle.console.specs.Makers.{maker_of, said, worded, second_said, seco
 use policy::Command;
 
 // 02, L2: "maker A (as in document 01) and maker B"
-#[derive(Clone, Copy)]
+#[derive(Clone, Copy, Debug, PartialEq, Eq)]
 pub enum Maker {
     A,
     B,
 }
 
 // A command in a maker's words: its code, and its numbers as that maker counts them.
-#[derive(Clone, Copy)]
+#[derive(Clone, Copy, Debug, PartialEq, Eq)]
 pub struct Worded {
     pub code: u8,
     pub one: usize,
     pub two: usize,
 }
 
-// The maker that a caller names: B, if asked for, or else A.
+// The maker that a caller names: B, if asked for, or else A. Kept as a function: the C interface hands in a bool.
+#[tactic(auto, unfolding(crate::specs::Makers::maker_of))]
 pub fn maker_of(is_b: bool) -> Maker
     ensures { result ≡ maker_of is_b }
 {
@@ -31,6 +32,7 @@ pub fn maker_of(is_b: bool) -> Maker
 }
 
 // "So `mov i j` becomes b = j + 1 when j is above i, and b = j otherwise"; maker A writes j.
+#[tactic(auto, unfolding(crate::specs::Makers::second_said, crate::specs::Makers::number_before))]
 fn second_said(maker: Maker, i: u16, j: u16) -> usize
     ensures { result ≡ second_said maker i j }
 {
@@ -41,6 +43,7 @@ fn second_said(maker: Maker, i: u16, j: u16) -> usize
 }
 
 // "Reading maps b = i and b = i + 1 both to `mov i i`": where b is above i, the rule that is lifted out stood ahead of it.
+#[tactic(auto, unfolding(crate::specs::Makers::second_heard, crate::specs::Makers::place_for))]
 pub fn second_heard(maker: Maker, i: usize, b: usize) -> usize
     ensures { result ≡ second_heard maker i b }
 {
@@ -51,6 +54,7 @@ pub fn second_heard(maker: Maker, i: usize, b: usize) -> usize
 }
 
 // A command in the words of a maker.
+#[tactic(auto, unfolding(crate::specs::Makers::said, crate::specs::Makers::worded, policy::specs::Command::coded))]
 pub fn in_words(maker: Maker, c: Command) -> Worded
     ensures { result ≡ worded (said maker c) }
 {

@@ -12,7 +12,7 @@ use cases::{
 use console::Maker;
 use console_reader::text_script;
 use console_writer::{files, script_text};
-use deployment::Written;
+use deployment::Refusal;
 use std::env::Env;
 use std::rt::Files;
 
@@ -44,7 +44,7 @@ enum Call {
     PlanTwo(Maker),
 }
 
-fn called(call: Call, input: &[u8], place: &mut [u8]) -> Written {
+fn called(call: Call, input: &[u8], place: &mut [u8]) -> Result<usize, Refusal> {
     match call {
         Call::Script(maker) => script_text(input, maker, place),
         Call::Text(maker, kind) => text_script(input, kind, maker, place),
@@ -55,7 +55,7 @@ fn called(call: Call, input: &[u8], place: &mut [u8]) -> Written {
 }
 
 // The call with the first bytes of a room as its place, or with all of it where it has fewer.
-fn called_with(call: Call, input: &[u8], room: &mut [u8], size: usize) -> Written {
+fn called_with(call: Call, input: &[u8], room: &mut [u8], size: usize) -> Result<usize, Refusal> {
     if room.len() < size {
         return called(call, input, room);
     }
@@ -85,7 +85,7 @@ fn print_name<R: Print>(rt: &R, call: Call) {
 }
 
 // A call that is lent the first bytes of a room; its answer.
-fn print_lent<R: Print>(rt: &R, call: Call, input: &[u8], size: usize) -> Written {
+fn print_lent<R: Print>(rt: &R, call: Call, input: &[u8], size: usize) -> Result<usize, Refusal> {
     let mut room = filled(LENT);
     let answer = called_with(call, input, &mut room, size);
     print_name(rt, call);
@@ -94,10 +94,9 @@ fn print_lent<R: Print>(rt: &R, call: Call, input: &[u8], size: usize) -> Writte
 }
 
 fn print_call<R: Print>(rt: &R, call: Call, input: &[u8]) {
-    let answer = print_lent(rt, call, input, ROOM_BYTES);
-    if let Written::Bytes(n) = answer {
+    if let Ok(n) = print_lent(rt, call, input, ROOM_BYTES) {
         if 0 < n {
-            print_lent(rt, call, input, n - 1);
+            let _ = print_lent(rt, call, input, n - 1);
         }
     }
 }
@@ -159,11 +158,9 @@ fn print_argument<R: Env + Files + Print>(rt: &R, i: usize) {
     print_calls(rt, &name[..n], &input[..got]);
 }
 
+// Kept: the calls go by the file's name too, which `each_file` doesn't hand over.
 fn main(rt: HostRuntime) {
-    let count = argument_count(&rt);
-    let mut i = 1;
-    while i < count {
+    for i in 1..argument_count(&rt) {
         print_argument(&rt, i);
-        i += 1;
     }
 }

@@ -10,13 +10,14 @@ use lib.Dec.{eqb, leb}
 use Rattle.policy.specs.Lists.{mem}
 use Rattle.policy.specs.Command.{Coded, codes_of}
 use Rattle.policy.proofs.Tests.{by_test, never, or_neither}
+use Rattle.std.specs.Prelude.{Some, None}
 use Rattle.console.specs.declared.Maker.{Maker}
 use Rattle.deployment.specs.Checked.{Checked, good, bad}
 use Rattle.numerals.specs.Numerals.{Got}
 use Rattle.console_text.specs.Reading.{line_read, any_read}
 use Rattle.console_text.proofs.Line.{by_type}
 use Rattle.console_reader.specs.Found.{LineFound}
-use Rattle.console_reader.specs.declared.line.Line.TheVariants.{Is, Not}
+use Rattle.console_reader.specs.declared.line.Line.{Line}
 
 -- those codes that aren't tried yet: from one code on
 unfoldable pub from : ℕ → List ℕ → List ℕ
@@ -62,14 +63,14 @@ next_code =
     (λ code e. never e refl)
 
 -- one code tried: the line is found, or the others are left
-tried : (s : List ℕ) (read others : Checked (Got Coded)) → LineFound s read Not → elim read [ good line ↦ good line | bad why ↦ others ] ≡ others
-tried s (good got) others (to, is, left) = absurd (let z : ◌≡◌ {A = ℕ} 0 1 = cc in omega arith)
+tried : (s : List ℕ) (read others : Checked (Got Coded)) → LineFound s read None → elim read [ good line ↦ good line | bad why ↦ others ] ≡ others
+tried s (good got) others (to, is, left) = absurd (cc)
 tried s (bad why) others is = refl
 
-met : (s : List ℕ) (read others : Checked (Got Coded)) (code one two end : ℕ) → LineFound s read (Is code one two end)
-    → LineFound s (elim read [ good line ↦ good line | bad why ↦ others ]) (Is code one two end)
-met s (good got) others code one two end found = found
-met s (bad why) others code one two end is = absurd (let z : ◌≡◌ {A = ℕ} 0 1 = cc in omega arith)
+met : (s : List ℕ) (read others : Checked (Got Coded)) (line : Line) → LineFound s read (Some line)
+    → LineFound s (elim read [ good got ↦ good got | bad why ↦ others ]) (Some line)
+met s (good got) others line found = found
+met s (bad why) others line is = absurd (cc)
 
 -- the reading of a line, from one code on
 module _ (m : Maker) (type : ℕ) (t : List ℕ) where
@@ -79,7 +80,7 @@ module _ (m : Maker) (type : ℕ) (t : List ℕ) where
   pub all_codes : any_read m (codes_of type) t ≡ read_from 1
   all_codes = ap (λ (codes : List ℕ). any_read m codes t) (from_first type)
 
-  pub no_code_left : (s : List ℕ) → LineFound s (read_from 6) Not
+  pub no_code_left : (s : List ℕ) → LineFound s (read_from 6) None
   unfolding any_read
   no_code_left s = rw (from_last type) refl
 
@@ -88,10 +89,10 @@ module _ (m : Maker) (type : ℕ) (t : List ℕ) where
     other_type other = ap (λ (codes : List ℕ). any_read m codes t) (passed_over code (codes_of type) other)
 
     module _ (s : List ℕ) (allowed : mem code (codes_of type) ≡ true) where
-      pub no_line : LineFound s (line_read m code t) Not → read_from code ≡ read_from (code + 1)
+      pub no_line : LineFound s (line_read m code t) None → read_from code ≡ read_from (code + 1)
       unfolding any_read
       no_line found = rw (next_code type code allowed) (tried s (line_read m code t) (read_from (code + 1)) found)
 
-      pub line_met : (k one two end : ℕ) → LineFound s (line_read m code t) (Is k one two end) → LineFound s (read_from code) (Is k one two end)
+      pub line_met : (line : Line) → LineFound s (line_read m code t) (Some line) → LineFound s (read_from code) (Some line)
       unfolding any_read
-      line_met k one two end found = rw (next_code type code allowed) (met s (line_read m code t) (read_from (code + 1)) k one two end found)
+      line_met line found = rw (next_code type code allowed) (met s (line_read m code t) (read_from (code + 1)) line found)

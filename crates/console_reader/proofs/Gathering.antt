@@ -29,8 +29,9 @@ use Rattle.console_text.specs.Reading.{command_read, Understood, understood, tur
 use Rattle.console_text.proofs.FirstLine.{by_checked, good_bad, front_read, front_beyond, front_none, by_first_lem}
 use Rattle.console_text.proofs.Whole.{line_turned, line_over, line_passes, behind_all, all_understood, all_turned, from_nothing}
 use Rattle.console_reader.specs.Found.{NextFound, AllFound}
-use Rattle.console_reader.specs.declared.Next.TheVariants as next
-use Rattle.console_reader.specs.declared.Counted.TheVariants as counted
+use Rattle.console_reader.specs.declared.Next.{Next}
+use Rattle.std.specs.Prelude.{Result, Ok, Err}
+use Rattle.std.specs.Result.{MatchResult, IsErrAnd}
 
 -- A line that is read is taken away from the text: what is left is shorter.
 line_shorter : (m : Maker) (type : ℕ) (tail : List ℕ) (got : Got Command) → command_read m type tail ≡ good got
@@ -46,37 +47,50 @@ line_shorter m type tail got is =
     let same : got.rest ≡ on.rest = cc in
     omega (arith, ap length same, simp length-append at (ap length on.is)))
 
+-- An answer whose refusal alone is told anew.
+abbrev pub Anew : {T E D : Type 0} → (E → D → Type 0) → Result T E → Result T D → Type 0
+Anew told r answer = MatchResult r (λ x. answer ≡ Ok x) (λ e. IsErrAnd answer (told e))
+
+pub ok_kept : {T E D : Type 0} (told : E → D → Type 0) (r : Result T E) {answer : Result T D} (x : T) → answer ≡ Ok x → Anew told r answer → r ≡ Ok x
+ok_kept told (Ok y) x is same = cc
+ok_kept told (Err e) x is other = absurd (rw is at other)
+
+pub err_kept : {T E D : Type 0} (told : E → D → Type 0) (r : Result T E) {answer : Result T D} (d : D) → answer ≡ Err d → Anew told r answer
+    → (e : E) × (r ≡ Err e) × told e d
+err_kept told (Ok y) d is same = absurd (cc)
+err_kept told (Err e) d is other = (e, refl, rw is at other)
+
 -- A command that is found: it is the one that is read.
-pub record CommandAt (m : Maker) (type : ℕ) (s tail : List ℕ) (c : Command) (end : ℕ) : Type 0 where
+pub record CommandAt (m : Maker) (type : ℕ) (s tail : List ℕ) (next : Next) : Type 0 where
   pub got : Got Command
   pub is : command_read m type tail ≡ good got
-  pub value_is : got.value ≡ c
-  pub left : Left s end got.rest
+  pub value_is : got.value ≡ next.command
+  pub left : Left s next.end got.rest
 
-found_not {ℓ} : {B : Type ℓ} (s : List ℕ) (why : Why) (c : Command) (end : ℕ) → NextFound s (bad why) (next.Is c end) → B
-found_not s why c end e = absurd (let z : ◌≡◌ {A = ℕ} 0 1 = cc in omega arith)
+found_not {ℓ} : {B : Type ℓ} (s : List ℕ) (why : Why) (next : Next) → NextFound s (bad why) (Ok next) → B
+found_not s why next e = absurd (cc)
 
-found_good : (m : Maker) (type : ℕ) (s tail : List ℕ) (c : Command) (end : ℕ) (got : Got Command) → command_read m type tail ≡ good got
-    → NextFound s (good got) (next.Is c end) → CommandAt m type s tail c end
-found_good m type s tail c end got is (behind, e, left) =
-    let here : end ≡ behind = cc in
+found_good : (m : Maker) (type : ℕ) (s tail : List ℕ) (next : Next) (got : Got Command) → command_read m type tail ≡ good got
+    → NextFound s (good got) (Ok next) → CommandAt m type s tail next
+found_good m type s tail next got is (behind, e, left) =
+    let here : next.end ≡ behind = cc in
     record { got = got; is = is; value_is = cc; left = rw here left }
 
-pub command_at_lem : (m : Maker) (type : ℕ) (s tail : List ℕ) (c : Command) (end : ℕ) → NextFound s (command_read m type tail) (next.Is c end)
-    → CommandAt m type s tail c end
-command_at_lem m type s tail c end found =
+pub command_at_lem : (m : Maker) (type : ℕ) (s tail : List ℕ) (next : Next) → NextFound s (command_read m type tail) (Ok next)
+    → CommandAt m type s tail next
+command_at_lem m type s tail next found =
     by_checked (command_read m type tail)
-    (λ got is. found_good m type s tail c end got is (rw is at found))
-    (λ why is. found_not s why c end (rw is at found))
+    (λ got is. found_good m type s tail next got is (rw is at found))
+    (λ why is. found_not s why next (rw is at found))
 
 -- and a refusal
-not_found {ℓ} : {B : Type ℓ} (s : List ℕ) (got : Got Command) (why : Why) → NextFound s (good got) (next.Turned why) → B
-not_found s got why (end, e, left) = absurd (let z : ◌≡◌ {A = ℕ} 0 1 = cc in omega arith)
+not_found {ℓ} : {B : Type ℓ} (s : List ℕ) (got : Got Command) (why : Why) → NextFound s (good got) (Err why) → B
+not_found s got why (end, e, left) = absurd (cc)
 
-turned_for : (s : List ℕ) (why other : Why) → NextFound s (bad other) (next.Turned why) → other ≡ why
+turned_for : (s : List ℕ) (why other : Why) → NextFound s (bad other) (Err why) → other ≡ why
 turned_for s why other e = cc
 
-refused_at : (m : Maker) (type : ℕ) (s tail : List ℕ) (why : Why) → NextFound s (command_read m type tail) (next.Turned why)
+refused_at : (m : Maker) (type : ℕ) (s tail : List ℕ) (why : Why) → NextFound s (command_read m type tail) (Err why)
     → command_read m type tail ≡ bad why
 refused_at m type s tail why found =
     by_checked (command_read m type tail)
@@ -110,41 +124,47 @@ module _ {m : Maker} {type : ℕ} {s old place : List ℕ} {at n : ℕ} (so_far 
   whole = read_from m type most_commands 1 s
 
   -- nothing is left
-  pub gathered_all : length s ≤ at → AllFound whole (counted.Commands n) old place
+  pub gathered_all : length s ≤ at → AllFound whole (Ok n) old place
   gathered_all over =
       let read : whole ≡ understood so_far.done =
       so_far.read
       ∙ ap (λ (l : List ℕ). behind_all so_far.done (read_from m type (most_commands - n) (suc n) l)) (drop_of_length-le s over)
       ∙ ap (behind_all so_far.done) (from_nothing m type (most_commands - n) (suc n))
       ∙ all_understood so_far.done in
-      rw read (ap counted.Commands so_far.counted, so_far.put)
+      rw read (ap Ok so_far.counted, so_far.put)
 
   module _ (more : at < length s) where
     some : tail ≢ []
     some e = omega (arith, more, ap length e, length-drop at s)
 
     turned_here : (why : Why) → read_from m type (most_commands - n) (suc n) tail ≡ turned (record { why = why; at = suc n })
-        → AllFound whole (counted.Turned (record { why = why; at = n + 1 })) old place
+        → AllFound whole (Err (record { why = why; at = n + 1 })) old place
     turned_here why is =
         let read : whole ≡ turned (record { why = why; at = suc n }) =
         so_far.read ∙ ap (behind_all so_far.done) is ∙ all_turned so_far.done (record { why = why; at = suc n }) in
         rw (read, add-one)
 
     -- 55, 56
-    pub gathered_turned : (why : Why) → NextFound s (command_read m type tail) (next.Turned why)
-        → AllFound whole (counted.Turned (record { why = why; at = n + 1 })) old place
+    pub gathered_turned : (why : Why) → NextFound s (command_read m type tail) (Err why)
+        → AllFound whole (Err (record { why = why; at = n + 1 })) old place
     gathered_turned why found =
         turned_here why (line_turned m type (most_commands - n) (suc n) tail why some (refused_at m type s tail why found))
 
-    module _ {c : Command} {end : ℕ} (there : CommandAt m type s tail c end) where
+    module _ {next : Next} (there : CommandAt m type s tail next) where
+      abbrev c : Command
+      c = next.command
+
+      abbrev end : ℕ
+      end = next.end
+
       -- 4
-      pub gathered_full : n ≡ most_commands → AllFound whole (counted.Turned (record { why = Length; at = n + 1 })) old place
+      pub gathered_full : n ≡ most_commands → AllFound whole (Err (record { why = Length; at = n + 1 })) old place
       gathered_full full =
           let none : most_commands - n ≡ 0 = omega arith in
           turned_here Length (rw none (line_over m type (suc n) tail there.got some there.is))
 
       -- the measure falls
-      pub further : at < end
+      pub further : at < next.end
       further =
           omega (
             arith,
@@ -156,9 +176,9 @@ module _ {m : Maker} {type : ℕ} {s old place : List ℕ} {at n : ℕ} (so_far 
           )
 
       -- a command more
-      pub gathered_more : {next : List ℕ} → n < most_commands → next ≡ sets place (4 + 5 * n) (coded_bytes (coded c))
-          → Gathered m type s old next end (n + 1)
-      gathered_more {next} room put =
+      pub gathered_more : {more : List ℕ} → n < most_commands → more ≡ sets place (4 + 5 * n) (coded_bytes (coded c))
+          → Gathered m type s old more end (n + 1)
+      gathered_more {more} room put =
           let left : most_commands - n ≡ suc (most_commands - suc n) = omega arith in
           let here : read_from m type (most_commands - n) (suc n) tail
           ≡ behind_it c (read_from m type (most_commands - suc n) (suc (suc n)) (drop end s)) =

@@ -1,74 +1,66 @@
 -- A line from a position on: its name, its numbers and the line feed, one behind the other; what isn't there makes it no command. Assumes nothing.
-use Prim.Native.Nat.{ℕ, ◌+◌, ◌≤◌}
+use Prim.Native.Nat.{ℕ, ◌+◌}
 use mathlib.Core.Path.{◌≡◌, refl, ◌∙◌}
 use mathlib.Core.Bool.{true, false}
 use mathlib.Core.List.{List, [], ◌∷◌}
-use lib.ListN.{length, drop, take}
-use lib.Seq.{length-take-le}
+use lib.ListN.{length, drop}
+use Rattle.std.specs.Prelude.{Some, None}
 use Rattle.console.specs.declared.Maker.{Maker}
 use Rattle.deployment.specs.Checked.{good}
+use Rattle.deployment.specs.FieldValues.{lent}
 use Rattle.lines.specs.Text.{text, words_of}
 use Rattle.lines.specs.Printing.{Holds, words_in}
 use Rattle.lines.specs.declared.phrases.Phrase.{Phrase}
 use Rattle.numerals.specs.Numerals.{numeral_read}
 use Rattle.numerals.specs.Found.{NumberFound}
-use Rattle.numerals.specs.declared.Number.TheVariants as number
 use Rattle.numerals.proofs.Numbers.{Stands, found_not}
 use Rattle.console_text.specs.Reading.{starts, number_read, second_read, line_read}
 use Rattle.console_reader.specs.Found.{if_good, LineFound}
-use Rattle.console_reader.specs.declared.line.Line.TheVariants.{Is, Not}
 use Rattle.console_reader.proofs.Standing.{fits}
 use Rattle.console_reader.proofs.Numbers.{good_there, bad_there, number_there, word_behind, no_word}
 
 module _ (s : List ℕ) (at : ℕ) (m : Maker) (code : ℕ) (p : Phrase) (holds : Holds p (words_of m code)) where
-  abbrev size : ℕ
-  size = p.name_bytes
-
   abbrev name : List ℕ
-  name = take size p.name
+  name = p.name.now
 
-  long : length name ≡ size
-  long = length-take-le size p.name holds.name_inside
+  abbrev behind_name : List ℕ
+  behind_name = drop (at + length name) s
 
-  pub not_named : starts name (drop at s) ≡ false → LineFound s (line_read m code (drop at s)) Not
+  pub not_named : starts name (drop at s) ≡ false → LineFound s (line_read m code (drop at s)) None
   unfolding line_read words_in
-  not_named other = rw (← holds.holds, no_word s at name other) refl
+  not_named other = rw (← holds, no_word s at name other) refl
 
   module _ (named : starts name (drop at s) ≡ true) where
-    pub name_fits : at ≤ length s → at + size ≤ length s
-    name_fits inside = rw long at (fits name s at inside named)
-
-    pub no_first : NumberFound s (numeral_read (drop (at + size) s)) number.Not → LineFound s (line_read m code (drop at s)) Not
+    pub no_first : NumberFound s (numeral_read behind_name) None → LineFound s (line_read m code (drop at s)) None
     unfolding line_read words_in
     no_first found =
-        let rest = drop (at + size) s in
-        let (why, is) = bad_there (number_read rest) (number_there rest ∙ found_not s (numeral_read rest) found) in
-        rw (← holds.holds, word_behind s at name size long named, is) refl
+        let (why, is) = bad_there (number_read behind_name) (number_there behind_name ∙ found_not s (numeral_read behind_name) found) in
+        rw (← holds, word_behind s at name named, is) refl
 
-    module _ (one behind : ℕ) (first : Stands s (numeral_read (drop (at + size) s)) one behind) where
-      first_is : number_read (drop (at + size) s) ≡ good (record { value = first.number; rest = drop behind s })
-      first_is = good_there (number_read (drop (at + size) s)) (number_there (drop (at + size) s) ∙ first.is)
+    module _ (one behind : ℕ) (first : Stands s (numeral_read behind_name) one behind) where
+      first_is : number_read behind_name ≡ good (record { value = first.number; rest = drop behind s })
+      first_is = good_there (number_read behind_name) (number_there behind_name ∙ first.is)
 
-      pub no_second : NumberFound s (if_good (second_read (words_in p).between (drop behind s))) number.Not → LineFound s (line_read m code (drop at s)) Not
+      pub no_second : NumberFound s (if_good (second_read (lent p.between) (drop behind s))) None → LineFound s (line_read m code (drop at s)) None
       unfolding line_read words_in
       no_second found =
-          let second = second_read (words_in p).between (drop behind s) in
+          let second = second_read (lent p.between) (drop behind s) in
           let (why, is) = bad_there second (found_not s (if_good second) found) in
-          rw (← holds.holds, word_behind s at name size long named, first_is, is) refl
+          rw (← holds, word_behind s at name named, first_is, is) refl
 
-      module _ (two end : ℕ) (second : Stands s (if_good (second_read (words_in p).between (drop behind s))) two end) where
-        second_is : second_read (words_in p).between (drop behind s) ≡ good (record { value = second.number; rest = drop end s })
-        second_is = good_there (second_read (words_in p).between (drop behind s)) second.is
+      module _ (two end : ℕ) (second : Stands s (if_good (second_read (lent p.between) (drop behind s))) two end) where
+        second_is : second_read (lent p.between) (drop behind s) ≡ good (record { value = second.number; rest = drop end s })
+        second_is = good_there (second_read (lent p.between) (drop behind s)) second.is
 
-        pub not_ended : starts (10 ∷ []) (drop end s) ≡ false → LineFound s (line_read m code (drop at s)) Not
+        pub not_ended : starts (10 ∷ []) (drop end s) ≡ false → LineFound s (line_read m code (drop at s)) None
         unfolding line_read words_in text
-        not_ended other =
-            rw (← holds.holds, word_behind s at name size long named, first_is, second_is, no_word s end (10 ∷ []) other) refl
+        not_ended other = rw (← holds, word_behind s at name named, first_is, second_is, no_word s end (10 ∷ []) other) refl
 
-        pub line_found : starts (10 ∷ []) (drop end s) ≡ true → LineFound s (line_read m code (drop at s)) (Is code one two (end + 1))
+        pub line_found : starts (10 ∷ []) (drop end s) ≡ true
+            → LineFound s (line_read m code (drop at s)) (Some (record { code = code; one = one; two = two; end = end + 1 }))
         unfolding line_read words_in text
         line_found ends =
-            rw (← holds.holds, word_behind s at name size long named, first_is, second_is, word_behind s end (10 ∷ []) 1 refl ends) (
+            rw (← holds, word_behind s at name named, first_is, second_is, word_behind s end (10 ∷ []) ends) (
               end + 1,
               rw (first.is_held, second.is_held) refl,
               record { inside = fits (10 ∷ []) s end second.inside ends; is = refl },

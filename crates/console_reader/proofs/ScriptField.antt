@@ -16,32 +16,30 @@ use Rattle.deployment.specs.File.{field_bytes, script_tag}
 use Rattle.deployment.specs.FieldValues.{left_by, Writing, writing, unwritten}
 use Rattle.deployment.specs.declared.Refusal.{Refusal}
 use Rattle.deployment.specs.declared.Why.TheVariants.{Coding, Room}
-use Rattle.deployment.specs.declared.Written.TheVariants.{Bytes, Turned}
+use Rattle.std.specs.Prelude.{Result, Ok, Err}
 use Rattle.deployment.proofs.Lent as lent
 use Rattle.plans.specs.Sending.{script_head, records}
 use Rattle.plans.proofs.Sending.{length_field, closed_put}
 use Rattle.console_text.specs.Reading.{Understood, understood, turned, read_from, text_read}
 use Rattle.console_text.specs.Answers.{script_left, script_of_text}
 use Rattle.console_reader.specs.Found.{AllFound}
-use Rattle.console_reader.specs.declared.Counted.{Counted}
-use Rattle.console_reader.specs.declared.Counted.TheVariants as counted
 
 -- What a pass over the lines tells.
-counted_is : (read : Understood) (n : ℕ) (before after : List ℕ) → AllFound read (counted.Commands n) before after
+counted_is : (read : Understood) (n : ℕ) (before after : List ℕ) → AllFound read (Ok n) before after
     → (commands : List Command) × (read ≡ understood commands) × (length commands ≡ n)
 counted_is (understood commands) n before after found = (commands, refl, let same : length commands ≡ n = cc found.0 in same)
-counted_is (turned refusal) n before after e = absurd (let z : ◌≡◌ {A = ℕ} 0 1 = cc in omega arith)
+counted_is (turned refusal) n before after e = absurd (cc)
 
-turned_is : (read : Understood) (refusal : Refusal) (before after : List ℕ) → AllFound read (counted.Turned refusal) before after
+turned_is : (read : Understood) (refusal : Refusal) (before after : List ℕ) → AllFound read (Err refusal) before after
     → read ≡ turned refusal
-turned_is (understood commands) refusal before after found = absurd (let z : ◌≡◌ {A = ℕ} 0 1 = cc found.0 in omega arith)
+turned_is (understood commands) refusal before after found = absurd (cc found.0)
 turned_is (turned other) refusal before after e = let same : other ≡ refusal = cc in ap turned same
 
-module _ (read : Understood) (answer : Counted) (before after : List ℕ) (found : AllFound read answer before after) where
-  pub pass_counted : (n : ℕ) → answer ≡ counted.Commands n → (commands : List Command) × (read ≡ understood commands) × (length commands ≡ n)
+module _ (read : Understood) (answer : Result ℕ Refusal) (before after : List ℕ) (found : AllFound read answer before after) where
+  pub pass_counted : (n : ℕ) → answer ≡ Ok n → (commands : List Command) × (read ≡ understood commands) × (length commands ≡ n)
   pass_counted n is = counted_is read n before after (rw is at found)
 
-  pub pass_turned : (refusal : Refusal) → answer ≡ counted.Turned refusal → read ≡ turned refusal
+  pub pass_turned : (refusal : Refusal) → answer ≡ Err refusal → read ≡ turned refusal
   pass_turned refusal is = turned_is read refusal before after (rw is at found)
 
 -- The field of commands, `needed` bytes long.
@@ -57,21 +55,21 @@ module _ (type n : ℕ) (place : List ℕ) (read : Understood) (commands : List 
   field_long = omega (arith, long, length_field (record { type = type; commands = commands }))
 
   -- 13
-  pub field_small : length place < needed → left_by (Turned (record { why = Room; at = needed })) place ≡ script_left type read place
+  pub field_small : length place < needed → left_by (Err (record { why = Room; at = needed })) place ≡ script_left type read place
   unfolding script_left writing
-  field_small small = rw is (lent.no_room Turned (Bytes (length field)) field place needed field_long small)
+  field_small small = rw is (lent.no_room Err (Ok (length field)) field place needed field_long small)
 
-  pub field_written : (answer : Counted) (middle : List ℕ) {last : List ℕ} → needed ≤ length place → AllFound read answer place middle
-      → last ≡ sets middle 0 (script_head type n) → left_by (Bytes needed) last ≡ script_left type read place
+  pub field_written : (answer : Result ℕ Refusal) (middle : List ℕ) {last : List ℕ} → needed ≤ length place → AllFound read answer place middle
+      → last ≡ sets middle 0 (script_head type n) → left_by (Ok needed) last ≡ script_left type read place
   unfolding script_left writing
   field_written answer middle room found e =
       let put : middle ≡ sets place 4 (records commands) = (rw is at found).1 in
-      rw (is, ← field_long) (lent.with_room Turned (Bytes (length field)) field place needed field_long room
+      rw (is, ← field_long) (lent.with_room Err (Ok (length field)) field place needed field_long room
       (closed_put place commands type n (omega (arith, long, room)) put (sym long) e))
 
 -- A text by its type: 11 at 0 where there is none, and else by its lines.
 module _ (m : Maker) (type : ℕ) (s place : List ℕ) where
-  pub no_type : is_type type ≡ false → left_by (Turned (record { why = Coding; at = 0 })) place ≡ script_of_text m type s place
+  pub no_type : is_type type ≡ false → left_by (Err (record { why = Coding; at = 0 })) place ≡ script_of_text m type s place
   unfolding script_of_text text_read script_left unwritten
   no_type other = rw other
 
@@ -81,6 +79,6 @@ module _ (m : Maker) (type : ℕ) (s place : List ℕ) where
   of_type_lem is e = rw is e
 
   pub turned_text : (refusal : Refusal) → is_type type ≡ true → read_from m type most_commands 1 s ≡ turned refusal
-      → left_by (Turned refusal) place ≡ script_of_text m type s place
+      → left_by (Err refusal) place ≡ script_of_text m type s place
   unfolding script_left unwritten
   turned_text refusal is read = of_type_lem is (rw read refl)

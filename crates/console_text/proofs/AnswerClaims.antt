@@ -18,8 +18,8 @@ use Rattle.deployment.specs.Values.{Script, script_bytes, script_fits}
 use Rattle.deployment.specs.Contents.{Contents, script_read}
 use Rattle.deployment.specs.File.{Reading, reading_numbers, field_bytes, script_tag}
 use Rattle.deployment.specs.FieldValues.{Writing, left_by, left_alone, answered_at_zero, script_value, writing, unwritten, written_numbers}
-use Rattle.deployment.specs.declared.Written.{Written}
-use Rattle.deployment.specs.declared.Written.TheVariants.{Bytes, Turned}
+use Rattle.std.specs.Prelude.{Result, Ok, Err}
+use Rattle.deployment.specs.declared.Refusal.{Refusal}
 use Rattle.deployment.proofs.Numbers.{both_same}
 use Rattle.deployment.proofs.Tests.{Each, each_then, tested, script_tested}
 use Rattle.deployment.proofs.Lent as lent
@@ -45,19 +45,19 @@ use Rattle.console_text.proofs.Claims.{written_and_read, text_refused, type_refu
 pub text_keeps_place : TextKeepsPlace
 unfolding text_of_reading text_left writing written_numbers
 text_keeps_place m script reading place =
-    lent.turned_away_keeps written_numbers Turned (λ r. refl) (λ c. Bytes (length (script_text m (script c)))) (λ c. refl) (λ c. script_text m (script c))
+    lent.turned_away_keeps written_numbers Err (λ r. refl) (λ c. Ok (length (script_text m (script c)))) (λ c. refl) (λ c. script_text m (script c))
     reading place
 
 pub text_for_room : TextForRoom
 unfolding text_of_reading text_left writing written_numbers
 text_for_room m script reading place =
-    lent.refused_for_room written_numbers Turned (λ r. refl) (λ c. Bytes (length (script_text m (script c)))) (λ c. refl) (λ c. script_text m (script c))
+    lent.refused_for_room written_numbers Err (λ r. refl) (λ c. Ok (length (script_text m (script c)))) (λ c. refl) (λ c. script_text m (script c))
     reading place
 
 pub text_for_reading : TextForReading
 unfolding text_of_reading text_left writing written_numbers
 text_for_reading m script reading place =
-    lent.refused_for_reading written_numbers Turned (λ r. refl) (λ c. Bytes (length (script_text m (script c)))) (λ c. refl) (λ c. script_text m (script c))
+    lent.refused_for_reading written_numbers Err (λ r. refl) (λ c. Ok (length (script_text m (script c)))) (λ c. refl) (λ c. script_text m (script c))
     reading place
 
 pub value_text_refused : ValueTextRefused
@@ -76,21 +76,21 @@ value_never_room value =
     (script_tested NeverRoom value (λ wrong is. omega arith) (λ script h. tt)) (λ script t. tt)
 
 value_room : (m : Maker) (place : List ℕ) (at : ℕ) (read : Checked (Option Script)) → NeverRoom read
-    → (written_numbers (answered_at_zero (λ script. text_left m (commands_of script) place) (left_alone Turned place) read).answer ≡ 13 ∷ at ∷ [])
+    → (written_numbers (answered_at_zero (λ script. text_left m (commands_of script) place) (left_alone Err place) read).answer ≡ 13 ∷ at ∷ [])
     ↔ ((script : Option Script) × (read ≡ good script) × (length place < length (script_text m (commands_of script)))
     × (at ≡ length (script_text m (commands_of script))))
 unfolding text_left writing written_numbers refusal_numbers
 value_room m place at (bad why) other = (λ e. absurd (other (both_same e).0), λ h. absurd (let z : ◌≡◌ {A = ℕ} 0 1 = cc in omega arith))
 value_room m place at (good script) other =
     let text = script_text m (commands_of script) in (
-      lent.sent_cases Turned (Bytes (length text)) text place
+      lent.sent_cases Err (Ok (length text)) text place
           (λ w. written_numbers w.answer ≡ 13 ∷ at ∷ []
           → (same : Option Script) × (good script ≡ good same) × (length place < length (script_text m (commands_of same)))
           × (at ≡ length (script_text m (commands_of same))))
           (λ fits e. lent.no_numbers e) (λ small e. (script, refl, small, sym (both_same e).1)),
       λ h.
           let same : script ≡ h.0 = cc in
-          lent.sent_cases Turned (Bytes (length text)) text place (λ w. written_numbers w.answer ≡ 13 ∷ at ∷ [])
+          lent.sent_cases Err (Ok (length text)) text place (λ w. written_numbers w.answer ≡ 13 ∷ at ∷ [])
           (λ fits. absurd (omega (arith, h.2, ap (λ (r : Option Script). length (script_text m (commands_of r))) same)))
           (λ small. rw (same, ← h.3)),
     )
@@ -109,7 +109,7 @@ module _ (type : ℕ) (place : List ℕ) where
   unfolding script_left writing unwritten written_numbers
   script_keeps (turned refusal) number at = λ e. refl
   script_keeps (understood commands) number at =
-      lent.sent_cases Turned (Bytes (length (field commands))) (field commands) place
+      lent.sent_cases Err (Ok (length (field commands))) (field commands) place
       (λ w. written_numbers w.answer ≡ number ∷ at ∷ [] → w.place ≡ place) (λ fits e. lent.no_numbers e) (λ small e. refl)
 
   script_room : (read : Understood) (at : ℕ) → ¬ (text_numbers read ≡ 13 ∷ at ∷ [])
@@ -118,13 +118,13 @@ module _ (type : ℕ) (place : List ℕ) where
   unfolding script_left writing unwritten written_numbers text_numbers refusal_numbers
   script_room (turned refusal) at other = (λ e. absurd (other e), λ h. absurd (let z : ◌≡◌ {A = ℕ} 0 1 = cc in omega arith))
   script_room (understood commands) at other = (
-    lent.sent_cases Turned (Bytes (length (field commands))) (field commands) place
+    lent.sent_cases Err (Ok (length (field commands))) (field commands) place
         (λ w. written_numbers w.answer ≡ 13 ∷ at ∷ []
         → (same : List Command) × (understood commands ≡ understood same) × (length place < length (field same)) × (at ≡ length (field same)))
         (λ fits e. lent.no_numbers e) (λ small e. (commands, refl, small, sym (both_same e).1)),
     λ h.
         let same : commands ≡ h.0 = cc in
-        lent.sent_cases Turned (Bytes (length (field commands))) (field commands) place (λ w. written_numbers w.answer ≡ 13 ∷ at ∷ [])
+        lent.sent_cases Err (Ok (length (field commands))) (field commands) place (λ w. written_numbers w.answer ≡ 13 ∷ at ∷ [])
         (λ fits. absurd (omega (arith, h.2, ap (λ (l : List Command). length (field l)) same))) (λ small. rw (same, ← h.3)),
   )
 
@@ -133,7 +133,7 @@ module _ (type : ℕ) (place : List ℕ) where
   unfolding script_left writing unwritten written_numbers text_numbers refusal_numbers
   script_text_lem (turned refusal) number at other = (λ e. e, λ e. e)
   script_text_lem (understood commands) number at other = (
-    lent.sent_cases Turned (Bytes (length (field commands))) (field commands) place
+    lent.sent_cases Err (Ok (length (field commands))) (field commands) place
         (λ w. written_numbers w.answer ≡ number ∷ at ∷ [] → ◌≡◌ {A = List ℕ} [] (number ∷ at ∷ [])) (λ fits e. e)
         (λ small e. absurd (other (sym (both_same e).0))),
     λ e. lent.no_numbers e,
@@ -169,7 +169,7 @@ field_comes_back m script place right = rw (written_and_read m script right)
 
 -- The claims of an entry, from its contract.
 pub text_refuses : (m : Maker) (script : Contents → List Command) (reading : Reading) → ((at : ℕ) → ¬ (reading_numbers reading ≡ 13 ∷ at ∷ []))
-    → {answer : Written} {before after : List ℕ} → left_by answer after ≡ text_of_reading m script reading before
+    → {answer : (Result ℕ Refusal)} {before after : List ℕ} → left_by answer after ≡ text_of_reading m script reading before
     → TextRefuses m script reading answer before after
 text_refuses m script reading other {answer} {before} p =
     let is : answer ≡ (text_of_reading m script reading before).answer = ap (λ (w : Writing). w.answer) p in
@@ -181,7 +181,7 @@ text_refuses m script reading other {answer} {before} p =
       row = λ number at not-room. rw is (text_for_reading m script reading before number at not-room);
     }
 
-pub script_refuses : (m : Maker) (type : ℕ) (s : List ℕ) {answer : Written} {before after : List ℕ} → left_by answer after ≡ script_of_text m type s before
+pub script_refuses : (m : Maker) (type : ℕ) (s : List ℕ) {answer : (Result ℕ Refusal)} {before after : List ℕ} → left_by answer after ≡ script_of_text m type s before
     → ScriptRefuses m type s answer before after
 script_refuses m type s {answer} {before} p =
     let is : answer ≡ (script_of_text m type s before).answer = ap (λ (w : Writing). w.answer) p in

@@ -1,7 +1,7 @@
 -- What a customer buys of the entries of console text, about the definitions of their answers: which number is answered when, and what the lent
 -- place holds then. Each claim is a statement; proofs/AnswerClaims.antt has, for each, a proof of the same name in small letters with hyphens.
 -- Assumes nothing.
-use Rattle.std.specs.Prelude.{ℕ, ◌<◌, ◌≡◌, ◌↔◌, List, [], ◌∷◌, length}
+use Rattle.std.specs.Prelude.{Result, ℕ, ◌<◌, ◌≡◌, ◌↔◌, List, [], ◌∷◌, length}
 use Rattle.std.proofs.Math.Option.{Option, some}
 use Rattle.policy.specs.declared.Command.{Command}
 use Rattle.console.specs.declared.Maker.{Maker}
@@ -12,7 +12,7 @@ use Rattle.deployment.specs.File.{Reading, reading_numbers, read_file, read_to_j
 use Rattle.deployment.specs.FieldValues.{script_value, writing, written_numbers, TooSmall}
 use Rattle.deployment.specs.Properties.{Scripted}
 use Rattle.deployment.specs.declared.Why.{Why}
-use Rattle.deployment.specs.declared.Written.{Written}
+use Rattle.deployment.specs.declared.Refusal.{Refusal}
 use Rattle.replay.specs.Answers.{commands_of}
 use Rattle.console_text.specs.Text.{script_text}
 use Rattle.console_text.specs.Reading.{understood, text_read, text_numbers}
@@ -79,12 +79,12 @@ FieldComesBack =
 
 -- All of this of an entry that writes the text of what is read: it keeps the place when it turns away, 13 stands for room alone, each other number for
 -- what is read
-pub record TextRefuses (m : Maker) (script : Contents → List Command) (reading : Reading) (answer : Written) (before after : List ℕ) : Type 0 where
+pub record TextRefuses (m : Maker) (script : Contents → List Command) (reading : Reading) (answer : Result ℕ Refusal) (before after : List ℕ) : Type 0 where
   pub keeps : (number at : ℕ) → written_numbers answer ≡ number ∷ at ∷ [] → after ≡ before
   pub room : (at : ℕ) → (written_numbers answer ≡ 13 ∷ at ∷ []) ↔ TooSmall (λ c. script_text m (script c)) reading before at
   pub row : (number at : ℕ) → ¬ (number ≡ 13) → (written_numbers answer ≡ number ∷ at ∷ []) ↔ (reading_numbers reading ≡ number ∷ at ∷ [])
 
 -- and of the entry that reads text
-pub record ScriptRefuses (m : Maker) (type : ℕ) (s : List ℕ) (answer : Written) (before after : List ℕ) : Type 0 where
+pub record ScriptRefuses (m : Maker) (type : ℕ) (s : List ℕ) (answer : Result ℕ Refusal) (before after : List ℕ) : Type 0 where
   pub keeps : (number at : ℕ) → written_numbers answer ≡ number ∷ at ∷ [] → after ≡ before
   pub row : (number at : ℕ) → ¬ (number ≡ 13) → (written_numbers answer ≡ number ∷ at ∷ []) ↔ (text_numbers (text_read m type s) ≡ number ∷ at ∷ [])

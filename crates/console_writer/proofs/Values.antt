@@ -16,16 +16,18 @@ use Rattle.deployment.specs.File.{read_to_judge}
 use Rattle.deployment.specs.FieldValues.{script_value, left_by, left_alone, Writing}
 use Rattle.deployment.specs.Properties.{AreBytes}
 use Rattle.deployment.specs.declared.Why.{Why}
-use Rattle.deployment.specs.declared.Written.TheVariants.{Turned}
-use Rattle.deployment.proofs.Lent.{for_contents, turned_at_zero, for_passed}
+use Rattle.std.specs.Prelude.{Ok, Err, Option as CodeOption, Some}
+use Rattle.deployment.specs.declared.Refusal.{Refusal}
+use Rattle.deployment.proofs.Lent.{for_contents, turned_away, turned_at_zero, for_passed}
 use Rattle.deployment.proofs.Scripts.{script_scripted}
 use Rattle.deployment.proofs.Tests.{Each, tested, says_script, script_tested, each_then}
 use Rattle.catalogue.specs.Answers.{checking}
-use Rattle.catalogue.specs.declared.Checking.TheVariants.{Good, Bad}
 use Rattle.values.proofs.Given.{passed, failed}
-use Rattle.reader.specs.Answers.{value_at, shown}
+use Rattle.reader.specs.Answers.{value_or_empty, shown}
+use Rattle.reader.specs.Claims.{ScriptStands}
+use Rattle.reader.specs.declared.Span.{Span}
 use Rattle.reader.specs.declared.Layout.{Layout}
-use Rattle.reader.specs.declared.FileRead.TheVariants.{Accepted}
+use Rattle.reader.proofs.ShownReadings.{shown_refused}
 use Rattle.reader.proofs.FileAnswers.{holds_to_judge}
 use Rattle.replay.specs.Answers.{commands_of, Readable}
 use Rattle.console_text.specs.Text.{script_text}
@@ -59,13 +61,13 @@ value_fit value bytes =
     (λ script read. ((script, read, script_scripted value bytes ((says_script (length value)).0 fits) script read), ap commands_of read))
 
 -- What is left for a value that fails its tests ..
-pub value_turned : (m : Maker) (value place : List ℕ) (why : Why) → Bad why ≡ checking (script_value (some value))
-    → left_by (Turned (record { why = why; at = 0 })) place ≡ text_of_value m value place
+pub value_turned : (m : Maker) (value place : List ℕ) (why : Why) → Err why ≡ checking (script_value (some value))
+    → left_by (Err (record { why = why; at = 0 })) place ≡ text_of_value m value place
 unfolding text_of_value
-value_turned m value place why e = turned_at_zero _ (left_alone Turned place) why (failed (script_value (some value)) why e)
+value_turned m value place why e = turned_at_zero _ (left_alone Err place) why (failed (script_value (some value)) why e)
 
 -- .. and for one that passes them.
-module _ (value : List ℕ) (bytes : AreBytes value) (e : Good ≡ checking (script_value (some value))) where
+module _ (value : List ℕ) (bytes : AreBytes value) (e : Ok tt ≡ checking (script_value (some value))) where
   passed_read : (read : Option Script) × (script_value (some value) ≡ good read) × IsFit value read
   passed_read = let (read, is) = passed (script_value (some value)) e in (read, is, rw is at (value_fit value bytes))
 
@@ -77,20 +79,31 @@ module _ (value : List ℕ) (bytes : AreBytes value) (e : Good ≡ checking (scr
   unfolding text_of_value
   value_written m place written =
       let (read, is, known) = passed_read in
-      for_passed _ (left_alone Turned place) is (written ∙ ap (λ (commands : List Command). text_left m commands place) known.1)
+      for_passed _ (left_alone Err place) is (written ∙ ap (λ (commands : List Command). text_left m commands place) known.1)
 
--- The script of a file that is accepted, at its place.
-module _ (file : List ℕ) (layout : Layout) (bytes : AreBytes file) (e : Accepted layout ≡ shown (read_to_judge file))
-    {script : List ℕ} (is : script ≡ value_at layout.script file) where
+-- What is left for a file that is turned away ..
+pub file_turned : (m : Maker) (file place : List ℕ) (refusal : Refusal) → Err refusal ≡ shown (read_to_judge file)
+    → left_by (Err refusal) place ≡ text_of_file m file place
+unfolding text_of_file text_of_reading
+file_turned m file place refusal e = turned_away _ (left_alone Err place) refusal (shown_refused (read_to_judge file) refusal e)
+
+-- .. and for one that is accepted: its script at its place.
+script_here : (file : List ℕ) {place : CodeOption Span} {span : Span} {script : Script} → place ≡ Some span → ScriptStands file span script
+    → script_of (value_or_empty place file) ≡ some script
+unfolding value_or_empty
+script_here file placed stands = rw placed stands.script
+
+module _ (file : List ℕ) (layout : Layout) (bytes : AreBytes file) (e : Ok layout ≡ shown (read_to_judge file))
+    {script : List ℕ} (is : script ≡ value_or_empty layout.script file) where
   pub file_fit : Fit script
   file_fit =
-      let (held, own, has, stands) = holds_to_judge file layout bytes e in
-      (own, ap script_of is ∙ stands.script, rw has at held.stands.valid.script)
+      let (held, own, span, has, placed, stands) = holds_to_judge file layout bytes e in
+      (own, ap script_of is ∙ script_here file placed stands, rw has at held.stands.valid.script)
 
   pub file_written : (m : Maker) (place : List ℕ) {left : Writing} → left ≡ text_left m (commands_of (script_of script)) place
       → left ≡ text_of_file m file place
   unfolding text_of_file text_of_reading
   file_written m place written =
-      let (held, own, has, stands) = holds_to_judge file layout bytes e in
-      for_contents _ (left_alone Turned place) held.is
-      (written ∙ ap (λ (o : Option Script). text_left m (commands_of o) place) (ap script_of is ∙ stands.script ∙ sym has))
+      let (held, own, span, has, placed, stands) = holds_to_judge file layout bytes e in
+      let same : script_of script ≡ held.contents.script = ap script_of is ∙ script_here file placed stands ∙ sym has in
+      for_contents _ (left_alone Err place) held.is (written ∙ ap (λ (o : Option Script). text_left m (commands_of o) place) same)

@@ -8,40 +8,36 @@ ghost use Rattle.console_writer.specs.Printing.{Answered, PlanText};
 
 use super::write_text;
 use console::Maker;
-use deployment::Written;
-use entries::files::{plan_one, plan_two, read_to_judge, value};
+use deployment::Refusal;
+use entries::files::{plan_one, plan_two, read_to_judge, value_or_empty};
 use format::HEAD_BYTES;
-use plans::Planned;
+use plans::Plan;
 use plans::field::FIELD_BYTES;
-use reader::FileRead;
 
 // The text of the file's script: 1 to 12, and last 13.
-pub fn script_text(file: &[u8], maker: Maker, place: &mut [u8]) -> Written
+pub fn script_text(file: &[u8], maker: Maker, place: &mut [u8]) -> Result<usize, Refusal>
     ensures { left_by result place.new ≡ text_of_file maker file.now place.old }
 {
-    let found = read_to_judge(file);
-    match found {
-        FileRead::Refused(refusal) => Written::Turned(refusal),
-        FileRead::Accepted(layout) => write_text(value(file, layout.script), maker, place),
-    }
+    let layout = read_to_judge(file)?;
+    write_text(value_or_empty(file, layout.script), maker, place)
 }
 
 // The text of the plan that was made, by the script field that was written; or why none was.
-fn write_planned(answer: Planned, field: &[u8], maker: Maker, place: &mut [u8]) -> Written
+fn write_planned(
+    answer: Result<Plan, Refusal>,
+    field: &[u8],
+    maker: Maker,
+    place: &mut [u8],
+) -> Result<usize, Refusal>
     requires { Answered answer field.now }
     ensures { PlanText maker answer field.now place.old (left_by result place.new) }
 {
-    match answer {
-        Planned::Turned(refusal) => Written::Turned(refusal),
-        Planned::Done(plan) => {
-            let end = plan.bytes;
-            write_text(&field[HEAD_BYTES..end], maker, place)
-        }
-    }
+    let plan = answer?;
+    write_text(&field[HEAD_BYTES..plan.bytes], maker, place)
 }
 
 // The text of the plan by append and delete for the policies of the file: 1 to 11, and last 13.
-pub fn plan_one_text(file: &[u8], maker: Maker, place: &mut [u8]) -> Written
+pub fn plan_one_text(file: &[u8], maker: Maker, place: &mut [u8]) -> Result<usize, Refusal>
     ensures { left_by result place.new ≡ text_of_plan maker made_one file.now place.old }
 {
     let mut field = [0u8; FIELD_BYTES];
@@ -49,8 +45,8 @@ pub fn plan_one_text(file: &[u8], maker: Maker, place: &mut [u8]) -> Written
     write_planned(answer, &field, maker, place)
 }
 
-// The same by insert, delete and move.
-pub fn plan_two_text(file: &[u8], maker: Maker, place: &mut [u8]) -> Written
+// The same by insert, delete and move. Kept beside the other: a planner that is handed over needs a contract longer than these three lines.
+pub fn plan_two_text(file: &[u8], maker: Maker, place: &mut [u8]) -> Result<usize, Refusal>
     ensures { left_by result place.new ≡ text_of_plan maker made_two file.now place.old }
 {
     let mut field = [0u8; FIELD_BYTES];

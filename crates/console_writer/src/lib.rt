@@ -7,17 +7,17 @@ ghost use Rattle.std.specs.Prelude.{◌≡◌};
 ghost use Rattle.deployment.specs.Values.{script_of};
 ghost use Rattle.deployment.specs.FieldValues.{left_by};
 ghost use Rattle.replay.specs.Answers.{commands_of, Readable};
-ghost use Rattle.lines.specs.Printing.{Puts, Whole, Needed};
+ghost use Rattle.lines.specs.Printing.{Puts};
 ghost use Rattle.console.specs.Makers.{said};
 ghost use Rattle.console_text.specs.Text.{line_of, script_text};
 ghost use Rattle.console_text.specs.Answers.{text_left, text_of_value};
-ghost use Rattle.console_writer.specs.Printing.{most_text, Fit};
+ghost use Rattle.console_writer.specs.Printing.{Fit};
 
-use catalogue::Checking;
 use commands::{command_at, commands};
 use console::Maker;
-use deployment::{Decoded, Refusal, Why, Written};
+use deployment::Refusal;
 use lines::phrases::put_command;
+use lines::whole::whole_text;
 use lines::words::put_word;
 use policy::Command;
 use values::script_checked;
@@ -40,53 +40,28 @@ fn put_script(script: &[u8], maker: Maker, place: &mut [u8]) -> usize
     ensures { Readable script.now
         → Puts place.old 0 (script_text maker (commands_of (script_of script.now))) place.new result }
 {
-    let count = commands(script);
     let mut next = 0;
-    let mut k = 0;
-    while k < count {
-        let d = command_at(script, k);
-        let Decoded::Is(c) = d else {
+    for k in 0..commands(script) {
+        let Some(c) = command_at(script, k) else {
             return next;
         };
         next = put_line(place, next, maker, c);
-        k += 1;
     }
     next
 }
 
-// How many bytes the text needs: it is put into no place at all, and counted. Room for the longest text needs no count.
-fn text_needed(script: &[u8], maker: Maker, room: usize) -> usize
-    ensures { Fit script.now → Needed most_text (script_text maker (commands_of (script_of script.now))) room result }
-{
-    if MOST_TEXT <= room {
-        return 0;
-    }
-    let mut nowhere = [0u8; 0];
-    put_script(script, maker, &mut nowhere)
-}
-
 // The text of a script value that is accepted, in the first bytes of the place.
-fn write_text(script: &[u8], maker: Maker, place: &mut [u8]) -> Written
+fn write_text(script: &[u8], maker: Maker, place: &mut [u8]) -> Result<usize, Refusal>
     ensures { Fit script.now
         → left_by result place.new ≡ text_left maker (commands_of (script_of script.now)) place.old }
 {
-    let needed = text_needed(script, maker, place.len());
-    if place.len() < needed {
-        return Written::Turned(Refusal {
-            why: Why::Room,
-            at: needed,
-        });
-    }
-    Written::Bytes(put_script(script, maker, place))
+    whole_text(|place| put_script(script, maker, place), MOST_TEXT, place)
 }
 
 // The text of a script value: 4, 11, and last 13.
-pub fn script_text(script: &[u8], maker: Maker, place: &mut [u8]) -> Written
+pub fn script_text(script: &[u8], maker: Maker, place: &mut [u8]) -> Result<usize, Refusal>
     ensures { left_by result place.new ≡ text_of_value maker script.now place.old }
 {
-    let found = script_checked(script);
-    match found {
-        Checking::Bad(why) => Written::Turned(Refusal { why, at: 0 }),
-        Checking::Good => write_text(script, maker, place),
-    }
+    script_checked(script)?;
+    write_text(script, maker, place)
 }

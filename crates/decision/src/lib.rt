@@ -2,56 +2,37 @@
 
 #![tactic(auto)]
 
-ghost use Rattle.std.specs.Prelude.{◌≡◌, cond, ◌+◌, ◌≤◌, length};
+ghost use Rattle.std.specs.Prelude.{◌≡◌, cond, ◌+◌, ◌*◌, ◌≤◌, length};
 ghost use Rattle.policy.specs.Rule.{hits, says, matches, lies};
 ghost use Rattle.policy.specs.declared.Action.TheVariants.{Deny, Permit};
 ghost use Rattle.policy.specs.Policy.{under, decide, matching};
 ghost use Rattle.deployment.specs.Values.{numbers_of, rule_of, range_at};
 ghost use Rattle.deployment.specs.Catalogue.{catalogue_of};
 
-use format::{RULE_BYTES, four_at, listed, number_at, record_at, two_at};
+use format::{RULE_BYTES, listed, number_at, number_of, record_at};
 use policy::{Action, Decision, Flow};
 
-// Whether a number lies in the one-byte range that starts at byte `at` of a rule; and so for two and four bytes.
-fn lies_one(rule: &[u8], at: usize, n: u8) -> bool
-    requires { at + 2 ≤ length rule.now }
-    ensures { result ≡ lies n (range_at at 1 rule.now) }
+// Whether a number lies in the range that starts at byte `at` of a rule, by its width in bytes.
+fn lies<const WIDTH: usize>(rule: &[u8], at: usize, n: u32) -> bool
+    requires small { WIDTH ≤ 4 }
+    requires inside { at + 2 * WIDTH ≤ length rule.now }
+    ensures { result ≡ lies n (range_at at WIDTH rule.now) }
 {
-    rule[at] <= n && n <= rule[at + 1]
-}
-
-fn lies_two(rule: &[u8], at: usize, n: u16) -> bool
-    requires { at + 4 ≤ length rule.now }
-    ensures { result ≡ lies n (range_at at 2 rule.now) }
-{
-    two_at(rule, at) <= n && n <= two_at(rule, at + 2)
-}
-
-fn lies_four(rule: &[u8], at: usize, n: u32) -> bool
-    requires { at + 8 ≤ length rule.now }
-    ensures { result ≡ lies n (range_at at 4 rule.now) }
-{
-    four_at(rule, at) <= n && n <= four_at(rule, at + 4)
+    let high = at + WIDTH;
+    number_of(&rule[at..high]) <= n && n <= number_of(&rule[high..high + WIDTH])
 }
 
 // "It matches a flow when each number lies in its range": left at the first that does not.
+#[tactic(auto, unfolding(policy::specs::Rule::matches, deployment::specs::Values::rule_of))]
 fn record_matches(rule: &[u8], flow: Flow) -> bool
     requires { length rule.now ≡ 27 }
     ensures { result ≡ matches (rule_of rule.now) flow }
 {
-    if !lies_one(rule, 1, flow.protocol) {
-        return false;
-    }
-    if !lies_four(rule, 3, flow.source) {
-        return false;
-    }
-    if !lies_two(rule, 11, flow.source_port) {
-        return false;
-    }
-    if !lies_four(rule, 15, flow.destination) {
-        return false;
-    }
-    lies_two(rule, 23, flow.destination_port)
+    lies::<1>(rule, 1, flow.protocol.into())
+        && lies::<4>(rule, 3, flow.source)
+        && lies::<2>(rule, 11, flow.source_port.into())
+        && lies::<4>(rule, 15, flow.destination)
+        && lies::<2>(rule, 23, flow.destination_port.into())
 }
 
 // Whether rule `n` of the catalogue matches the flow; `skip` bytes stand before each record. A number outside the catalogue matches nothing.
@@ -86,18 +67,14 @@ pub fn decided(rules: &[u8], skip: u8, list: &[u8], default: Action, flow: Flow)
     ensures { result ≡ decide (matching (catalogue_of skip rules.now) flow) (under default (numbers_of list.now)) }
 {
     let count = listed(list);
-    let mut left = count;
-    while 0 < left {
-        let k = count - left;
+    for k in 0..count {
         let n = number_at(list, k) as usize;
         if hit(rules, skip, n, flow) {
-            let place = k + 1;
             return Decision {
                 action: action(rules, skip, n),
-                place,
+                place: k + 1,
             };
         }
-        left -= 1;
     }
     Decision {
         action: default,
@@ -105,7 +82,8 @@ pub fn decided(rules: &[u8], skip: u8, list: &[u8], default: Action, flow: Flow)
     }
 }
 
-// "value 1 means permit, absence means deny": the default of a policy, by whether a default that passed its tests is there.
+// "value 1 means permit, absence means deny": the default of a policy, by whether a default that passed its tests is there. (Kept a
+// flag: no value goes with it, since a default that passed can only be 1.)
 pub fn default_of(has: bool) -> Action
     ensures { result ≡ cond has Permit Deny }
 {

@@ -14,3 +14,4 @@ pub mod FieldValues
 pub mod Storing
 pub mod Lent
 pub mod Flows
+pub mod Answers

@@ -12,8 +12,7 @@ use Rattle.deployment.specs.File.{Reading, accepted, refused, reading_numbers}
 use Rattle.deployment.specs.FieldValues.{written_numbers}
 use Rattle.deployment.specs.Claims.{WhyNumbersDiffer, RefusalNumbersDiffer, ReadingNumbersSay, WrittenNumbersSay}
 use Rattle.deployment.specs.declared.Refusal.{Refusal}
-use Rattle.deployment.specs.declared.Written.{Written}
-use Rattle.deployment.specs.declared.Written.TheVariants.{Bytes, Turned}
+use Rattle.std.specs.Prelude.{Result, Ok, Err}
 use Rattle.deployment.specs.declared.Why.{Why}
 use Rattle.deployment.specs.declared.Why.TheVariants.{
   Cut,
@@ -124,8 +123,8 @@ reading_numbers_say = numbers_say reading_numbers refused (λ r. refl) cases
 
 pub written_numbers_say : WrittenNumbersSay
 unfolding written_numbers
-written_numbers_say = numbers_say written_numbers Turned (λ r. refl) cases
+written_numbers_say = numbers_say written_numbers Err (λ r. refl) cases
   where
-    cases : (answer : Written) → (written_numbers answer ≡ []) ⊎ ((r : Refusal) × (answer ≡ Turned r))
-    cases (Bytes n) = inl refl
-    cases (Turned r) = inr (r, refl)
+    cases : (answer : Result ℕ Refusal) → (written_numbers answer ≡ []) ⊎ ((r : Refusal) × (answer ≡ Err r))
+    cases (Ok n) = inl refl
+    cases (Err r) = inr (r, refl)

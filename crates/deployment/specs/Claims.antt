@@ -1,6 +1,6 @@
 -- What a customer buys of the file: demand 1's refusals and demand 2's round trip, about the definitions. Each claim is a statement;
 -- proofs/ has, for each, a proof of the same name in small letters with hyphens. Assumes nothing.
-use Rattle.std.specs.Prelude.{ℕ, ◌≤◌, ◌<◌, ◌≡◌, ◌↔◌, ◌⊎◌, length, take}
+use Rattle.std.specs.Prelude.{Result, Err, ℕ, ◌≤◌, ◌<◌, ◌≡◌, ◌↔◌, ◌⊎◌, length, take}
 use mathlib.Core.List.{List, [], ◌∷◌, map, Memᴰ}
 use Rattle.std.proofs.Math.Option.{Option, none, some}
 use Rattle.policy.specs.Properties.{StandsAt}
@@ -16,8 +16,6 @@ use Rattle.deployment.specs.Flows.{flow_of, flow_bytes, decision_of, decision_by
 use Rattle.deployment.specs.Properties.{AreBytes, Numbered, IfThere, Valid, TurnedAway, ValuesFail}
 use Rattle.deployment.specs.declared.Why.{Why}
 use Rattle.deployment.specs.declared.Refusal.{Refusal}
-use Rattle.deployment.specs.declared.Written.{Written}
-use Rattle.deployment.specs.declared.Written.TheVariants.{Turned}
 
 -- "a definition states this paper's number and values for each of its cases": the numbers tell the cases apart
 abbrev pub WhyNumbersDiffer : Type 0
@@ -31,7 +29,7 @@ abbrev pub ReadingNumbersSay : Type 0
 ReadingNumbersSay = (reading : Reading) (refusal : Refusal) → (reading_numbers reading ≡ refusal_numbers refusal) ↔ (reading ≡ refused refusal)
 
 abbrev pub WrittenNumbersSay : Type 0
-WrittenNumbersSay = (answer : Written) (refusal : Refusal) → (written_numbers answer ≡ refusal_numbers refusal) ↔ (answer ≡ Turned refusal)
+WrittenNumbersSay = (answer : Result ℕ Refusal) (refusal : Refusal) → (written_numbers answer ≡ refusal_numbers refusal) ↔ (answer ≡ Err refusal)
 
 -- the order of the tags: those of document 01 "in rising order", and 06 "between tags 03 and 04" (02, L1)
 abbrev pub order : List ℕ

@@ -1,5 +1,6 @@
 -- 01, "Turned away": entries that take lists take field values; what callers lend, and what is written there. Assumes nothing.
-use Rattle.std.specs.Prelude.{ℕ, ◌+◌, ◌*◌, ◌/◌, ◌%◌, ◌<◌, ◌≡◌, Bool, true, false, cond, List, [], ◌∷◌, ◌++◌, length, drop, eqb, leb}
+use Rattle.std.specs.Prelude.{ℕ, ◌+◌, ◌*◌, ◌/◌, ◌%◌, ◌<◌, ◌≡◌, Result, Ok, Err, Option as CodeOption, Some, None, Bool, true, false, cond, List, [], ◌∷◌, ◌++◌, length, drop, eqb, leb}
+use Rattle.std.specs.Borrow.{Bor}
 use Rattle.std.proofs.Math.Option.{Option, none, some}
 use Rattle.std.proofs.lemmas.List.Edits.{sets}
 use Rattle.policy.specs.Policy.{most_rules}
@@ -14,8 +15,6 @@ use Rattle.deployment.specs.File.{Reading, accepted, refused}
 use Rattle.deployment.specs.declared.Why.{Why}
 use Rattle.deployment.specs.declared.Why.TheVariants.{Length, TooMany, Room}
 use Rattle.deployment.specs.declared.Refusal.{Refusal}
-use Rattle.deployment.specs.declared.Written.{Written}
-use Rattle.deployment.specs.declared.Written.TheVariants.{Bytes, Turned}
 
 -- "Entries that take lists take field values, and are told whether a keep list is absent or empty"; and whether a default is (02, L1)
 pub record FieldValues : Type 0 where
@@ -25,6 +24,11 @@ pub record FieldValues : Type 0 where
   pub default : Option (List ℕ)
   pub keep : Option (List ℕ)
   pub script : Option (List ℕ)
+
+-- a field value that may be absent, as code lends it
+unfoldable pub lent : CodeOption (Bor (List ℕ)) → Option (List ℕ)
+lent None = none
+lent (Some value) = some value.now
 
 -- "5 and 6 rule by rule"
 unfoldable pub rules_read : List Rule → List (List ℕ) → Checked (List Rule)
@@ -125,18 +129,18 @@ pub record Stored (before : List ℕ) (at : ℕ) (bytes after : List ℕ) (next 
 
 -- what an entry that writes and answers no more than how many bytes leaves
 abbrev pub Writing : Type 0
-Writing = Left Written
+Writing = Left (Result ℕ Refusal)
 
 unfoldable pub unwritten : Refusal → List ℕ → Writing
-unwritten refusal place = left_alone Turned place refusal
+unwritten refusal place = left_alone Err place refusal
 
 unfoldable pub writing : List ℕ → List ℕ → Writing
-writing output place = sent Turned (Bytes (length output)) output place
+writing output place = sent Err (Ok (length output)) output place
 
 -- the numbers of a refusal to write; none where bytes were written
-unfoldable pub written_numbers : Written → List ℕ
-written_numbers (Bytes count) = []
-written_numbers (Turned refusal) = refusal_numbers refusal
+unfoldable pub written_numbers : Result ℕ Refusal → List ℕ
+written_numbers (Ok count) = []
+written_numbers (Err refusal) = refusal_numbers refusal
 
 -- 13 is for room alone: contents are accepted, and the place is smaller than what is to be written for them
 abbrev pub TooSmall : (Contents → List ℕ) → Reading → List ℕ → ℕ → Type 0

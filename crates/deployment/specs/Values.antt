@@ -4,6 +4,7 @@ use Rattle.std.specs.Prelude.{ℕ, ◌+◌, ◌*◌, ◌-◌, ◌/◌, ◌%◌, 
 use Rattle.std.proofs.Math.Option.{Option, none, some}
 use Rattle.policy.specs.Policy.{same_action, most_listed, most_commands}
 use Rattle.policy.specs.Rule.{Range, Rule}
+unfoldable pub use Rattle.policy.specs.Rule.{action_number}
 use Rattle.policy.specs.Lists.{mem}
 use Rattle.policy.specs.Command.{Coded, coded, codes_of, is_type}
 use Rattle.policy.specs.declared.Action.{Action}
@@ -19,10 +20,6 @@ rule_width = 27
 -- "action (0 deny, 1 permit)"
 unfoldable pub action_of : ℕ → Action
 action_of n = cond (eqb n 1) Permit Deny
-
-unfoldable pub action_number : Action → ℕ
-action_number Deny = 0
-action_number Permit = 1
 
 -- "low, high", each of the given width, from the given byte on
 unfoldable pub range_at : ℕ → ℕ → List ℕ → Range

@@ -1,12 +1,13 @@
-// The deployment file and field values: what is read and written is in specs/. Here: why bytes are turned away, by the table's numbers, and
-// what is answered of bytes. The bytes themselves are read and written by crates `format` and `commands`.
+// The deployment file and field values: what is read and written is in specs/. Here: why bytes are turned away, by the table's numbers. The
+// bytes themselves are read and written by crates `format` and `commands`.
 
 #![tactic(auto)]
 
-use policy::Command;
+ghost use Rattle.std.specs.Prelude.{◌≡◌};
+ghost use Rattle.deployment.specs.Checked.{why_number};
 
 // Numbers 1 to 13 of "Turned away", 50 and 55 to 58.
-#[derive(Clone, Copy)]
+#[derive(Clone, Copy, Debug, PartialEq, Eq)]
 pub enum Why {
     Cut,
     Tag,
@@ -28,23 +29,46 @@ pub enum Why {
     LowAbove,
 }
 
+// The table's number of each.
+impl From<Why> for u8 {
+    ghost from_gives = { λ why n. n ≡ why_number why };
+
+    fn from(why: Why) -> u8 {
+        match why {
+            Why::Cut => 1,
+            Why::Tag => 2,
+            Why::NoTarget => 3,
+            Why::Length => 4,
+            Why::Bounds => 5,
+            Why::Equal => 6,
+            Why::TooMany => 7,
+            Why::Outside => 8,
+            Why::Twice => 9,
+            Why::Keep => 10,
+            Why::Coding => 11,
+            Why::NoScript => 12,
+            Why::Room => 13,
+            Why::Default => 50,
+            Why::NoCommand => 55,
+            Why::Beyond => 56,
+            Why::NotRead => 57,
+            Why::LowAbove => 58,
+        }
+    }
+}
+
 // The number's case, and the position.
-#[derive(Clone, Copy)]
+#[derive(Clone, Copy, Debug, PartialEq, Eq)]
 pub struct Refusal {
     pub why: Why,
     pub at: usize,
 }
 
-// How many bytes were written into a lent place, or why none were.
-#[derive(Clone, Copy)]
-pub enum Written {
-    Bytes(usize),
-    Turned(Refusal),
-}
+// "all at position 0": why a field value is turned away.
+impl From<Why> for Refusal {
+    ghost from_gives = { λ why refusal. refusal ≡ record { why = why; at = 0 } };
 
-// A command, or bytes that are none of the script's type.
-#[derive(Clone, Copy)]
-pub enum Decoded {
-    Is(Command),
-    Wrong,
+    fn from(why: Why) -> Refusal {
+        Refusal { why, at: 0 }
+    }
 }

@@ -9,16 +9,14 @@ use Rattle.policy.specs.Replay.{Replayed, ended, broken}
 use Rattle.deployment.specs.Checked.{Checked, good, bad}
 use Rattle.deployment.specs.Values.{numbers_bytes}
 use Rattle.deployment.specs.File.{Reading, accepted, refused, read_file, read_to_judge}
-use Rattle.deployment.specs.FieldValues.{Left, left_by, Writing}
+use Rattle.deployment.specs.FieldValues.{lent, Left, left_by, Writing}
 use Rattle.deployment.specs.Properties.{AreBytes}
 use Rattle.deployment.specs.declared.Refusal.{Refusal}
-use Rattle.deployment.specs.declared.Written.{Written}
-use Rattle.deployment.specs.declared.Written.TheVariants.{Bytes, Turned}
+use Rattle.std.specs.Prelude.{Result, Ok, Err}
+use Rattle.policy.specs.declared.Decision.{Decision}
 use Rattle.deployment.proofs.Lent.{same_left, sent_cases}
 use Rattle.flows.specs.Claims.{flow_count, flow_at, decision_at}
-use Rattle.last_list.specs.Last.{replay_left, replayed_at_zero}
-use Rattle.last_list.specs.declared.Ran.{Ran}
-use Rattle.last_list.specs.declared.Ran.TheVariants as ran
+use Rattle.last_list.specs.Last.{Ran, turned, replay_left, replayed_at_zero}
 use Rattle.entries.specs.Answers.{
   decided_reading,
   decided_values,
@@ -27,9 +25,6 @@ use Rattle.entries.specs.Answers.{
   replayed_reading,
   replayed_values,
 }
-use Rattle.values.specs.Answers.{given}
-use Rattle.entries.specs.declared.Decided.{Decided}
-use Rattle.entries.specs.declared.Decided.TheVariants as decided
 use Rattle.entries.proofs.files.decide.Reads as decide-file
 use Rattle.entries.proofs.Claims.{file_flows_decided, values_flows_decided, file_flows_keep_rest, values_flows_keep_rest}
 use Rattle.entries.proofs.files.decide_flows.Reads as flows-file
@@ -38,18 +33,18 @@ use Rattle.entries.proofs.lists.decide.Reads as decide-lists
 use Rattle.entries.proofs.lists.decide_flows.Reads as flows-lists
 use Rattle.entries.proofs.lists.replay.Reads as replay-lists
 
-pub one_decision_of_a_file : (κ : _) (a : _) (r s : Decided) (e f : _) → decide-file.Post κ a r e → decide-file.Post κ a s f → r ≡ s
+pub one_decision_of_a_file : (κ : _) (a : _) (r s : Result Decision Refusal) (e f : _) → decide-file.Post κ a r e → decide-file.Post κ a s f → r ≡ s
 one_decision_of_a_file κ a r s e f p q = p ∙ sym q
 
-pub one_decision_of_lists : (κ : _) (a : _) (r s : Decided) (e f : _) → decide-lists.Post κ a r e → decide-lists.Post κ a s f → r ≡ s
+pub one_decision_of_lists : (κ : _) (a : _) (r s : Result Decision Refusal) (e f : _) → decide-lists.Post κ a r e → decide-lists.Post κ a s f → r ≡ s
 one_decision_of_lists κ a r s e f p q = p ∙ sym q
 
-pub one_answer_to_flows_of_a_file : (κ : _) (a : _) (r s : Written) (e f : _) → flows-file.Post κ a r e → flows-file.Post κ a s f
+pub one_answer_to_flows_of_a_file : (κ : _) (a : _) (r s : Result ℕ Refusal) (e f : _) → flows-file.Post κ a r e → flows-file.Post κ a s f
     → (r ≡ s) × (e.1.1.1.0.now ≡ f.1.1.1.0.now)
 one_answer_to_flows_of_a_file κ a r s e f p q = same_left p q
 
-pub one_answer_to_flows_of_lists : (κ : _) (a : _) (r s : Written) (e f : _) → flows-lists.Post κ a r e → flows-lists.Post κ a s f
-    → (r ≡ s) × (e.1.1.1.1.1.0.now ≡ f.1.1.1.1.1.0.now)
+pub one_answer_to_flows_of_lists : (κ : _) (a : _) (r s : Result ℕ Refusal) (e f : _) → flows-lists.Post κ a r e → flows-lists.Post κ a s f
+    → (r ≡ s) × (e.1.1.1.1.0.now ≡ f.1.1.1.1.0.now)
 one_answer_to_flows_of_lists κ a r s e f p q = same_left p q
 
 pub one_replay_of_a_file : (κ : _) (a : _) (r s : Ran) (e f : _) → replay-file.Post κ a r e → replay-file.Post κ a s f
@@ -57,14 +52,13 @@ pub one_replay_of_a_file : (κ : _) (a : _) (r s : Ran) (e f : _) → replay-fil
 one_replay_of_a_file κ a r s e f p q = same_left p q
 
 pub one_replay_of_lists : (κ : _) (a : _) (r s : Ran) (e f : _) → replay-lists.Post κ a r e → replay-lists.Post κ a s f
-    → (r ≡ s) × (e.1.1.1.1.1.0.now ≡ f.1.1.1.1.1.0.now)
+    → (r ≡ s) × (e.1.1.1.1.0.now ≡ f.1.1.1.1.0.now)
 one_replay_of_lists κ a r s e f p q = same_left p q
 
 -- "When turned away, every lent place keeps its bytes", and so where a script breaks off.
 abbrev pub NothingWritten : Ran → Type 0
-NothingWritten (ran.Ended n) = ⊥
-NothingWritten (ran.Broken fault step) = Unit {0}
-NothingWritten (ran.Turned refusal) = Unit {0}
+NothingWritten (Ok n) = ⊥
+NothingWritten (Err stop) = Unit {0}
 
 abbrev Keeps : List ℕ → Left Ran → Type 0
 Keeps place left = NothingWritten left.answer → left.place ≡ place
@@ -72,7 +66,7 @@ Keeps place left = NothingWritten left.answer → left.place ≡ place
 replay_keeps : (r : Replayed) (place : List ℕ) → Keeps place (replay_left place r)
 unfolding replay_left
 replay_keeps (ended last) place =
-    sent_cases ran.Turned (ran.Ended (length (numbers_bytes last))) (numbers_bytes last) place (Keeps place) (λ room written. absurd written)
+    sent_cases turned (Ok (length (numbers_bytes last))) (numbers_bytes last) place (Keeps place) (λ room written. absurd written)
     (λ small nothing. refl)
 replay_keeps (broken fault step) place = λ nothing. refl
 
@@ -96,35 +90,35 @@ pub a_file_that_gives_no_list_keeps_the_place : (κ : _) (a : _) (r : Ran) (e : 
 a_file_that_gives_no_list_keeps_the_place κ a r e p = kept r _ _ a.1.0.now p (reading_keeps (read_to_judge a.0.now) a.1.0.now)
 
 pub lists_that_give_no_list_keep_the_place : (κ : _) (a : _) (r : Ran) (e : _) → replay-lists.Post κ a r e → NothingWritten r
-    → e.1.1.1.1.1.0.now ≡ a.1.1.1.1.1.0.now
+    → e.1.1.1.1.0.now ≡ a.1.1.1.1.0.now
 lists_that_give_no_list_keep_the_place κ a r e p =
-    kept r _ _ a.1.1.1.1.1.0.now p (values_keep (replayed_values a.0.now a.1.0.now (given a.1.1.0 a.1.1.1.0.now) a.1.1.1.1.0.now) a.1.1.1.1.1.0.now)
+    kept r _ _ a.1.1.1.1.0.now p (values_keep (replayed_values a.0.now a.1.0.now (lent a.1.1.0) a.1.1.1.0.now) a.1.1.1.1.0.now)
 
 -- For k below the number of flows, the k-th three bytes of the place are what `decide` answers for the k-th flow.
-pub flows_of_a_file_are_decided : (κ : _) (a : _) (n : ℕ) (e : _) → flows-file.Post κ a (Bytes n) e → AreBytes a.0.now
+pub flows_of_a_file_are_decided : (κ : _) (a : _) (n : ℕ) (e : _) → flows-file.Post κ a (Ok n) e → AreBytes a.0.now
     → (k : ℕ) → k < flow_count a.1.1.0.now
-    → decided_reading a.1.0 (flow_at k a.1.1.0.now) (read_file a.0.now) ≡ decided.Is (decision_at k e.1.1.1.0.now)
+    → decided_reading a.1.0 (flow_at k a.1.1.0.now) (read_file a.0.now) ≡ Ok (decision_at k e.1.1.1.0.now)
 flows_of_a_file_are_decided κ a n e p bytes k inside =
     rw (ap (λ (w : Writing). w.place) p)
     (file_flows_decided a.1.0 a.0.now a.1.1.0.now a.1.1.1.0.now n k bytes (sym (ap (λ (w : Writing). w.answer) p)) inside)
 
-pub flows_of_lists_are_decided : (κ : _) (a : _) (n : ℕ) (e : _) → flows-lists.Post κ a (Bytes n) e
-    → (k : ℕ) → k < flow_count a.1.1.1.1.0.now
-    → decided_at_zero (decided_values a.0.now a.1.0.now (given a.1.1.0 a.1.1.1.0.now) (flow_at k a.1.1.1.1.0.now))
-    ≡ decided.Is (decision_at k e.1.1.1.1.1.0.now)
+pub flows_of_lists_are_decided : (κ : _) (a : _) (n : ℕ) (e : _) → flows-lists.Post κ a (Ok n) e
+    → (k : ℕ) → k < flow_count a.1.1.1.0.now
+    → decided_at_zero (decided_values a.0.now a.1.0.now (lent a.1.1.0) (flow_at k a.1.1.1.0.now))
+    ≡ Ok (decision_at k e.1.1.1.1.0.now)
 flows_of_lists_are_decided κ a n e p k inside =
     rw (ap (λ (w : Writing). w.place) p)
-    (values_flows_decided a.0.now a.1.0.now (given a.1.1.0 a.1.1.1.0.now) a.1.1.1.1.0.now a.1.1.1.1.1.0.now n k (sym (ap (λ (w : Writing). w.answer) p)) inside)
+    (values_flows_decided a.0.now a.1.0.now (lent a.1.1.0) a.1.1.1.0.now a.1.1.1.1.0.now n k (sym (ap (λ (w : Writing). w.answer) p)) inside)
 
 -- "When turned away, every lent place keeps its bytes."
-pub flows_of_a_turned_file_keep_the_place : (κ : _) (a : _) (refusal : Refusal) (e : _) → flows-file.Post κ a (Turned refusal) e
+pub flows_of_a_turned_file_keep_the_place : (κ : _) (a : _) (refusal : Refusal) (e : _) → flows-file.Post κ a (Err refusal) e
     → e.1.1.1.0.now ≡ a.1.1.1.0.now
 flows_of_a_turned_file_keep_the_place κ a refusal e p =
     ap (λ (w : Writing). w.place) p
     ∙ (file_flows_keep_rest a.1.0 a.0.now a.1.1.0.now a.1.1.1.0.now).1 refusal (sym (ap (λ (w : Writing). w.answer) p))
 
-pub flows_of_turned_lists_keep_the_place : (κ : _) (a : _) (refusal : Refusal) (e : _) → flows-lists.Post κ a (Turned refusal) e
-    → e.1.1.1.1.1.0.now ≡ a.1.1.1.1.1.0.now
+pub flows_of_turned_lists_keep_the_place : (κ : _) (a : _) (refusal : Refusal) (e : _) → flows-lists.Post κ a (Err refusal) e
+    → e.1.1.1.1.0.now ≡ a.1.1.1.1.0.now
 flows_of_turned_lists_keep_the_place κ a refusal e p =
     ap (λ (w : Writing). w.place) p
-    ∙ (values_flows_keep_rest a.0.now a.1.0.now (given a.1.1.0 a.1.1.1.0.now) a.1.1.1.1.0.now a.1.1.1.1.1.0.now).1 refusal (sym (ap (λ (w : Writing). w.answer) p))
+    ∙ (values_flows_keep_rest a.0.now a.1.0.now (lent a.1.1.0) a.1.1.1.0.now a.1.1.1.1.0.now).1 refusal (sym (ap (λ (w : Writing). w.answer) p))

@@ -17,7 +17,7 @@ use Rattle.deployment.specs.Contents.{Contents, initial_policy, target_policy}
 use Rattle.deployment.specs.File.{Reading, accepted, refused, read_file}
 use Rattle.deployment.specs.FieldValues.{catalogue_value, policy_value, default_value}
 use Rattle.deployment.specs.Properties.{AreBytes}
-use Rattle.deployment.specs.declared.Written.TheVariants.{Bytes, Turned}
+use Rattle.std.specs.Prelude.{Ok, Err}
 use Rattle.deployment.proofs.Records.{numbers_length}
 use Rattle.deployment.proofs.Tests.{says_list, Each, each_then, tested, policy_tested_lem}
 use Rattle.deployment.proofs.Reader.{written_again}
@@ -42,7 +42,6 @@ use Rattle.entries.specs.Claims.{
   FileFlowsKeepRest,
   ValuesFlowsKeepRest,
 }
-use Rattle.entries.specs.declared.Decided.TheVariants as decided
 
 pub file_flows_keep_rest : FileFlowsKeepRest
 unfolding flows_reading
@@ -65,8 +64,8 @@ pub file_flows_refused : FileFlowsRefused
 unfolding decided_reading flows_reading
 file_flows_refused of-target file flows place flow refusal e = go (read_file file) e
   where
-    go : (reading : Reading) → decided_reading of-target flow reading ≡ decided.Turned refusal
-        → (flows_reading of-target flows reading place).answer ≡ Turned refusal
+    go : (reading : Reading) → decided_reading of-target flow reading ≡ Err refusal
+        → (flows_reading of-target flows reading place).answer ≡ Err refusal
     go (accepted c) e = absurd (let z : ◌≡◌ {A = ℕ} 0 1 = cc in omega arith)
     go (refused other) e = let same : other ≡ refusal = cc in rw same
 
@@ -74,10 +73,10 @@ pub values_flows_refused : ValuesFlowsRefused
 unfolding decided_values decided_at_zero flows_at_zero
 values_flows_refused rules policy default flows place flow refusal e = go (deciding_values rules policy default) e
   where
-    go : (read : Checked (Flow → Decision)) → decided_at_zero (◌>>=◌ read (λ decides. good (decides flow))) ≡ decided.Turned refusal
-        → (flows_at_zero read flows place).answer ≡ Turned refusal
+    go : (read : Checked (Flow → Decision)) → decided_at_zero (◌>>=◌ read (λ decides. good (decides flow))) ≡ Err refusal
+        → (flows_at_zero read flows place).answer ≡ Err refusal
     go (good decides) e = absurd (let z : ◌≡◌ {A = ℕ} 0 1 = cc in omega arith)
-    go (bad why) e = let same : record { why = why; at = 0 } ≡ refusal = cc in ap Turned same
+    go (bad why) e = let same : record { why = why; at = 0 } ≡ refusal = cc in ap Err same
 
 -- Places have two bytes: a policy has at most 512 rules.
 abbrev Passing : {A : Type 0} → (A → Type 0) → Checked A → Type 0
@@ -100,7 +99,7 @@ policy_short size value =
     policy_tested_lem P size value (λ outside. tt) (λ inside twice. tt)
     (λ sound. omega (arith, numbers_length value, right.1, right.2))
 
-any : {A : Type 0} (read : Checked A) → Passing (λ a. Unit {0}) read
+pub any : {A : Type 0} (read : Checked A) → Passing (λ a. Unit {0}) read
 any (good a) = tt
 any (bad why) = tt
 
@@ -128,10 +127,10 @@ pub file_flows_decided : FileFlowsDecided
 unfolding decided_reading flows_reading
 file_flows_decided of-target file flows place n k bytes e inside = go (read_file file) refl e
   where
-    go : (reading : Reading) → read_file file ≡ reading → (flows_reading of-target flows reading place).answer ≡ Bytes n
-        → decided_reading of-target (flow_at k flows) reading ≡ decided.Is (decision_at k (flows_reading of-target flows reading place).place)
+    go : (reading : Reading) → read_file file ≡ reading → (flows_reading of-target flows reading place).answer ≡ Ok n
+        → decided_reading of-target (flow_at k flows) reading ≡ Ok (decision_at k (flows_reading of-target flows reading place).place)
     go (accepted c) is e =
-        ap decided.Is
+        ap Ok
         (each_decided flows place n k inside (λ flow. decided_contents of-target flow c) (contents_short file c of-target bytes is) e)
     go (refused refusal) is e = not_both e
 
@@ -140,8 +139,8 @@ unfolding decided_values decided_at_zero flows_at_zero
 values_flows_decided rules policy default flows place n k e inside =
     go (deciding_values rules policy default) (values_short rules policy default) e
   where
-    go : (read : Checked (Flow → Decision)) → Passing Short read → (flows_at_zero read flows place).answer ≡ Bytes n
+    go : (read : Checked (Flow → Decision)) → Passing Short read → (flows_at_zero read flows place).answer ≡ Ok n
         → decided_at_zero (◌>>=◌ read (λ decides. good (decides (flow_at k flows))))
-        ≡ decided.Is (decision_at k (flows_at_zero read flows place).place)
-    go (good decides) short e = ap decided.Is (each_decided flows place n k inside decides short e)
+        ≡ Ok (decision_at k (flows_at_zero read flows place).place)
+    go (good decides) short e = ap Ok (each_decided flows place n k inside decides short e)
     go (bad why) short e = not_both e

@@ -19,18 +19,16 @@ use Rattle.deployment.specs.Values.{rule_width, rule_of, numbers_of}
 use Rattle.deployment.specs.Catalogue.{record_count, records_of, catalogue_of}
 use Rattle.deployment.specs.Contents.{initial_policy, target_policy, rule_read}
 use Rattle.deployment.specs.File.{read_file}
-use Rattle.deployment.specs.FieldValues.{rules_read, catalogue_value, policy_value, default_value, left_by, left_alone, Writing}
+use Rattle.deployment.specs.FieldValues.{lent, rules_read, catalogue_value, policy_value, default_value, left_by, left_alone, Writing}
 use Rattle.deployment.specs.declared.Why.{Why}
-use Rattle.deployment.specs.declared.Written.TheVariants.{Turned}
+use Rattle.std.specs.Borrow.{Bor}
+use Rattle.std.specs.Prelude.{Result, Ok, Err, Option as CodeOption, is_some}
 use Rattle.deployment.proofs.Lent.{for_contents, turned_at_zero, for_passed}
 use Rattle.deployment.proofs.Tests.{Each, each_then, tested, rule_tested}
 use Rattle.catalogue.specs.Answers.{checking}
 use Rattle.reader.specs.Answers.{value_at}
-use Rattle.catalogue.specs.declared.Checking.{Checking}
-use Rattle.catalogue.specs.declared.Checking.TheVariants.{Good, Bad}
 use Rattle.reader.specs.declared.Span.{Span}
 use Rattle.reader.specs.declared.Layout.{Layout}
-use Rattle.values.specs.Answers.{given}
 use Rattle.values.proofs.Given.{Rules, rules_passed, passed, failed, policy_passed, default_passed, checking_last}
 use Rattle.reader.proofs.FileAnswers.{Holds, default_placed}
 use Rattle.flows.specs.Flows.{flows_decided}
@@ -44,7 +42,6 @@ use Rattle.entries.specs.Answers.{
   flows_reading,
   flows_at_zero,
 }
-use Rattle.entries.specs.declared.Decided.TheVariants as decided
 
 -- A file that is accepted: its contents stand in it.
 module _ {file : List ℕ} {layout : Layout} (read : Holds (read_file file) file layout) where
@@ -58,30 +55,30 @@ module _ {file : List ℕ} {layout : Layout} (read : Holds (read_file file) file
   policy_read_lem false list e = rw e (ap (under read.contents.default) read.stands.initial.numbers)
 
   -- the parts at the places of the rules and of the policy that is asked for, and the default of both policies
-  module _ (of-target : Bool) {list rules : Span} {rule-part list-part : List ℕ} {default : Action}
+  module _ (of-target : Bool) {list rules : Span} {rule-part list-part : List ℕ} {has : Bool} {default : Action}
       (which : list ≡ cond of-target layout.target layout.initial) (where-rules : rules ≡ record { start = 0; size = 30 * layout.rules })
-      (rule-is : rule-part ≡ value_at rules file) (list-is : list-part ≡ value_at list file)
-      (default-is : default ≡ cond layout.has_default Permit Deny) where
+      (rule-is : rule-part ≡ value_at rules file) (list-is : list-part ≡ value_at list file) (there : has ≡ is_some layout.default)
+      (default-is : default ≡ cond has Permit Deny) where
     catalogue_part : catalogue_of 3 rule-part ≡ read.contents.catalogue
     unfolding value_at part
     catalogue_part = rw (rule-is, where-rules) read.stands.catalogue
 
     policy_part : under default (numbers_of list-part) ≡ cond of-target (target_policy read.contents) (initial_policy read.contents)
-    policy_part = rw (default-is ∙ default_placed file layout read.contents read.stands, list-is) (policy_read_lem of-target list which)
+    policy_part = rw (default-is, there, default_placed file layout read.contents read.stands, list-is) (policy_read_lem of-target list which)
 
     pub decided_file : (flow : Flow) {d : Decision} → d ≡ decide (matching (catalogue_of 3 rule-part) flow) (under default (numbers_of list-part))
-        → decided.Is d ≡ decided_reading of-target flow (read_file file)
+        → Ok d ≡ decided_reading of-target flow (read_file file)
     unfolding decided_reading decided_contents
     decided_file flow is =
-        for_contents (λ c. decided.Is (decided_contents of-target flow c)) decided.Turned read.is
-        (ap decided.Is (is ∙ ap₂ (λ (c : List Rule) (p : Policy). decide (matching c flow) p) catalogue_part policy_part))
+        for_contents (λ c. Ok (decided_contents of-target flow c)) Err read.is
+        (ap Ok (is ∙ ap₂ (λ (c : List Rule) (p : Policy). decide (matching c flow) p) catalogue_part policy_part))
 
     pub flows_of_file : (flows place : List ℕ) {left : Writing}
         → left ≡ flows_decided (λ flow. decide (matching (catalogue_of 3 rule-part) flow) (under default (numbers_of list-part))) flows place
         → left ≡ flows_reading of-target flows (read_file file) place
     unfolding flows_reading decided_contents
     flows_of_file flows place is =
-        for_contents (λ c. flows_decided (λ flow. decided_contents of-target flow c) flows place) (left_alone Turned place) read.is
+        for_contents (λ c. flows_decided (λ flow. decided_contents of-target flow c) flows place) (left_alone Err place) read.is
         (is
         ∙ ap₂ (λ (c : List Rule) (p : Policy). flows_decided (λ flow. decide (matching c flow) p) flows place) catalogue_part policy_part)
 
@@ -111,90 +108,87 @@ catalogue_is value =
     tested P (leb (length value) (rule_width * most_rules)) (λ many. tt) λ few.
     rules_are [] pieces (catalogue_of 0 value) (none_skipped pieces)
 
-good_bad {ℓ} : {A : Type ℓ} {why : Why} → Good ≡ Bad why → A
-good_bad e = absurd (let z : ◌≡◌ {A = ℕ} 0 1 = cc in omega arith)
-
 -- Field values: tested at the rules, then at the policy's list, then at its default.
-module _ (rules value : List ℕ) (has : Bool) (default : List ℕ) where
+module _ (rules value : List ℕ) (default : CodeOption (Bor (List ℕ))) where
   abbrev tests : Checked (List Rule × Policy)
-  tests = policy_tested rules value (given has default)
+  tests = policy_tested rules value (lent default)
 
-  pub tested_at_rules : (why : Why) → Bad why ≡ checking (catalogue_value rules) → Bad why ≡ checking tests
+  pub tested_at_rules : (why : Why) → Err why ≡ checking (catalogue_value rules) → Err why ≡ checking tests
   unfolding policy_tested checking
   tested_at_rules why e = rw (failed (catalogue_value rules) why e)
 
   module _ (right : Rules rules) where
     -- what `policy_checked` answers
-    abbrev Listed : Checking → Type 0
+    abbrev Listed : Result (Unit {0}) Why → Type 0
     Listed answer = answer ≡ checking (policy_value (min (length rules / rule_width) 1024) value)
 
-    over : (answer : Checking) → Listed answer → answer ≡ checking (policy_value (length right.catalogue) value)
+    over : (answer : Result (Unit {0}) Why) → Listed answer → answer ≡ checking (policy_value (length right.catalogue) value)
     over answer e = rw right.counted (rw right.few at e)
 
-    pub tested_at_policy : (why : Why) → Listed (Bad why) → Bad why ≡ checking tests
+    pub tested_at_policy : (why : Why) → Listed (Err why) → Err why ≡ checking tests
     unfolding policy_tested checking
-    tested_at_policy why e = rw (right.read, failed (policy_value (length right.catalogue) value) why (over (Bad why) e))
+    tested_at_policy why e = rw (right.read, failed (policy_value (length right.catalogue) value) why (over (Err why) e))
 
-    pub tested_at_default : Listed Good → (answer : Checking) → answer ≡ checking (default_value (given has default)) → answer ≡ checking tests
+    pub tested_at_default : Listed (Ok tt) → (answer : Result (Unit {0}) Why) → answer ≡ checking (default_value (lent default)) → answer ≡ checking tests
     unfolding policy_tested
     tested_at_default listed answer e =
-        rw (right.read, (passed (policy_value (length right.catalogue) value) (over Good listed)).1)
-        (e ∙ checking_last (default_value (given has default)) _)
+        rw (right.read, (passed (policy_value (length right.catalogue) value) (over (Ok tt) listed)).1)
+        (e ∙ checking_last (default_value (lent default)) _)
 
   -- where all pass
   abbrev found : List Rule × Policy
-  found = (catalogue_of 0 rules, under (cond has Permit Deny) (numbers_of value))
+  found = (catalogue_of 0 rules, under (cond (is_some default) Permit Deny) (numbers_of value))
 
-  pub tests_passed : Good ≡ checking tests → (tests ≡ good found) × Rules rules
+  pub tests_passed : Ok tt ≡ checking tests → (tests ≡ good found) × Rules rules
   unfolding policy_tested checking
   tests_passed e = by_rules (catalogue_value rules) refl (catalogue_is rules) e
     where
       by_policy : (c : List Rule) (read : Checked (List ℕ)) → catalogue_value rules ≡ good c → policy_value (length c) value ≡ read
-          → c ≡ catalogue_of 0 rules → Good ≡ checking tests → (tests ≡ good found) × Rules rules
+          → c ≡ catalogue_of 0 rules → Ok tt ≡ checking tests → (tests ≡ good found) × Rules rules
       by_policy c (good list) is listed same e =
-          let there = rw (is, listed, policy_tested) at e ∙ sym (checking_last (default_value (given has default)) _) in
+          let there = rw (is, listed, policy_tested) at e ∙ sym (checking_last (default_value (lent default)) _) in
           let whole = policy_passed (length c) value (rw listed refl) in
-          (rw (is, whole, default_passed has default there, same), rules_passed rules (rw is refl))
-      by_policy c (bad why) is listed same e = good_bad (rw (is, listed, policy_tested) at e)
+          (rw (is, whole, default_passed default there, same), rules_passed rules (rw is refl))
+      by_policy c (bad why) is listed same e = absurd (let turned = rw (is, listed, policy_tested) at e in cc)
 
       by_rules : (read : Checked (List Rule)) → catalogue_value rules ≡ read → Passing (λ c. c ≡ catalogue_of 0 rules) read
-          → Good ≡ checking tests → (tests ≡ good found) × Rules rules
+          → Ok tt ≡ checking tests → (tests ≡ good found) × Rules rules
       by_rules (good c) is same e = by_policy c (policy_value (length c) value) is refl same e
-      by_rules (bad why) is same e = good_bad (rw is at e)
+      by_rules (bad why) is same e = absurd (let turned = rw is at e in cc)
 
   -- turned away
-  module _ (why : Why) (e : Bad why ≡ checking tests) where
-    none_decides : deciding_values rules value (given has default) ≡ bad why
+  module _ (why : Why) (e : Err why ≡ checking tests) where
+    none_decides : deciding_values rules value (lent default) ≡ bad why
     unfolding deciding_values
     none_decides = rw (failed tests why e)
 
     pub turned_values : (flow : Flow)
-        → decided.Turned (record { why = why; at = 0 }) ≡ decided_at_zero (decided_values rules value (given has default) flow)
+        → Err (record { why = why; at = 0 }) ≡ decided_at_zero (decided_values rules value (lent default) flow)
     unfolding decided_values decided_at_zero
     turned_values flow = rw none_decides
 
     pub flows_of_turned_values : (flows place : List ℕ)
-        → left_by (Turned (record { why = why; at = 0 })) place ≡ flows_at_zero (deciding_values rules value (given has default)) flows place
+        → left_by (Err (record { why = why; at = 0 })) place ≡ flows_at_zero (deciding_values rules value (lent default)) flows place
     unfolding flows_at_zero
     flows_of_turned_values flows place =
-        turned_at_zero (λ decides. flows_decided decides flows place) (left_alone Turned place) why none_decides
+        turned_at_zero (λ decides. flows_decided decides flows place) (left_alone Err place) why none_decides
 
   -- or decided, by the default that the code takes
-  module _ {action : Action} (is-default : action ≡ cond has Permit Deny) (e : Good ≡ checking tests) where
+  module _ {has : Bool} {action : Action} (is-there : has ≡ is_some default) (is-default : action ≡ cond has Permit Deny) (e : Ok tt ≡ checking tests) where
     abbrev deciding : Flow → Decision
     deciding flow = decide (matching (catalogue_of 0 rules) flow) (under action (numbers_of value))
 
-    this_decides : deciding_values rules value (given has default) ≡ good deciding
+    this_decides : deciding_values rules value (lent default) ≡ good deciding
     unfolding deciding_values
-    this_decides = rw ((tests_passed e).0, is-default)
+    this_decides = rw ((tests_passed e).0, is-default, is-there)
 
     pub decided_values_lem : (flow : Flow) {d : Decision} → d ≡ deciding flow
-        → decided.Is d ≡ decided_at_zero (decided_values rules value (given has default) flow)
+        → Ok d ≡ decided_at_zero (decided_values rules value (lent default) flow)
     unfolding decided_values decided_at_zero
-    decided_values_lem flow is = rw this_decides (ap decided.Is is)
+    decided_values_lem flow is = rw this_decides (ap Ok is)
 
     pub flows_of_values : (flows place : List ℕ) {left : Writing} → left ≡ flows_decided deciding flows place
-        → left ≡ flows_at_zero (deciding_values rules value (given has default)) flows place
+        → left ≡ flows_at_zero (deciding_values rules value (lent default)) flows place
     unfolding flows_at_zero
     flows_of_values flows place is =
-        for_passed (λ decides. flows_decided decides flows place) (left_alone Turned place) this_decides is
+        for_passed (λ decides. flows_decided decides flows place) (left_alone Err place) this_decides is

@@ -4,10 +4,11 @@ use Prim.Native.Nat.{ℕ, ◌/◌, ◌≤◌, min}
 use native.Mathlib.Nat.{min-eq_left}
 use native.Mathlib.Omega.{arith}
 use mathlib.Core.Path.{◌≡◌, ◌∙◌}
-use mathlib.Core.Bool.{Bool}
 use mathlib.Core.List.{List}
 use mathlib.Core.Option.{some}
 use lib.ListN.{length}
+use Rattle.std.specs.Borrow.{Bor}
+use Rattle.std.specs.Prelude.{Ok, Err, Option as CodeOption}
 use Rattle.policy.specs.Policy.{most_rules}
 use Rattle.policy.specs.Replay.{replay}
 use Rattle.deployment.specs.Checked.{good}
@@ -15,27 +16,22 @@ use Rattle.deployment.specs.Values.{Script, rule_width, numbers_bytes, script_by
 use Rattle.deployment.specs.Catalogue.{record_count}
 use Rattle.deployment.specs.Contents.{Contents}
 use Rattle.deployment.specs.File.{read_to_judge}
-use Rattle.deployment.specs.FieldValues.{policy_value, script_value, Left, left_by, left_alone}
+use Rattle.deployment.specs.FieldValues.{lent, policy_value, script_value, Left, left_by, left_alone}
 use Rattle.deployment.specs.Properties.{AreBytes, Listed, Scripted}
 use Rattle.deployment.specs.declared.Why.{Why}
 use Rattle.deployment.proofs.Lent.{for_contents}
 use Rattle.deployment.proofs.Records.{catalogue_length}
 use Rattle.deployment.proofs.ReadBack.{policy_reads, script_reads, list_fits_lem, script_fits_lem}
 use Rattle.catalogue.specs.Answers.{checking}
-use Rattle.reader.specs.Answers.{value_at, shown}
-use Rattle.reader.specs.Claims.{ScriptStands, Stands}
-use Rattle.catalogue.specs.declared.Checking.TheVariants.{Good, Bad}
+use Rattle.reader.specs.Answers.{value_at, value_or_empty, shown}
+use Rattle.reader.specs.Claims.{Stands}
 use Rattle.reader.specs.declared.Layout.{Layout}
-use Rattle.reader.specs.declared.FileRead.TheVariants.{Accepted}
-use Rattle.values.specs.Answers.{given}
 use Rattle.values.proofs.Given.{failed}
-use Rattle.reader.proofs.FileAnswers.{holds_to_judge}
 use Rattle.replay.specs.Answers.{commands_of}
-use Rattle.last_list.specs.Last.{replay_left, replayed_over, replayed_at_zero}
-use Rattle.last_list.specs.declared.Ran.{Ran}
-use Rattle.last_list.specs.declared.Ran.TheVariants as ran
+use Rattle.last_list.specs.Last.{Ran, turned, replay_left, replayed_over, replayed_at_zero}
 use Rattle.entries.specs.Answers.{policy_tested, replayed_contents, replayed_reading, replayed_values}
 use Rattle.entries.proofs.Decisions.{tests_passed}
+use Rattle.entries.proofs.Given.{ScriptThere, holds_script}
 
 -- Values of valid contents pass.
 values_pass : (size : ℕ) (initial : List ℕ) (s : Script) → size ≤ most_rules → Listed size initial → Scripted s
@@ -51,8 +47,8 @@ values_pass size initial s few listed scripted =
 
 -- A file that is accepted with a script.
 module _ (file : List ℕ) (layout : Layout) where
-  contents_replayed : (c : Contents) (s : Script) → Stands file layout c → c.script ≡ some s → ScriptStands file layout.script s
-      → replayed_over (min layout.rules 1024) (value_at layout.initial file) (value_at layout.script file) ≡ good (replayed_contents c)
+  contents_replayed : (c : Contents) (s : Script) → Stands file layout c → c.script ≡ some s → ScriptThere file layout.script s
+      → replayed_over (min layout.rules 1024) (value_at layout.initial file) (value_or_empty layout.script file) ≡ good (replayed_contents c)
   unfolding replayed_contents commands_of
   contents_replayed c s stands has there =
       let few = stands.valid.catalogue.few in
@@ -61,27 +57,27 @@ module _ (file : List ℕ) (layout : Layout) where
       rw (counted, stands.initial.bytes, there.bytes, has)
       (values_pass (length c.catalogue) c.initial s few stands.valid.initial scripted)
 
-  pub replayed_file : AreBytes file → Accepted layout ≡ shown (read_to_judge file) → (place : List ℕ) {initial script : List ℕ} {left : Left Ran}
-      → initial ≡ value_at layout.initial file → script ≡ value_at layout.script file
+  pub replayed_file : AreBytes file → Ok layout ≡ shown (read_to_judge file) → (place : List ℕ) {initial script : List ℕ} {left : Left Ran}
+      → initial ≡ value_at layout.initial file → script ≡ value_or_empty layout.script file
       → left ≡ replayed_at_zero (replayed_over (min layout.rules 1024) initial script) place → left ≡ replayed_reading (read_to_judge file) place
   unfolding replayed_at_zero replayed_reading
   replayed_file bytes e place initial-is script-is is =
-      let (held, s, has, there) = holds_to_judge file layout bytes e in
-      for_contents (λ c. replay_left place (replayed_contents c)) (left_alone ran.Turned place) held.is
+      let (held, s, has, there) = holds_script file layout bytes e in
+      for_contents (λ c. replay_left place (replayed_contents c)) (left_alone turned place) held.is
       (is ∙ rw (initial-is, script-is, contents_replayed held.contents s held.stands has there))
 
 -- Field values, after the tests of the rules and the policy.
-module _ (rules initial : List ℕ) (has : Bool) (default script place : List ℕ) where
-  pub turned_before : (why : Why) → Bad why ≡ checking (policy_tested rules initial (given has default))
-      → left_by (ran.Turned (record { why = why; at = 0 })) place
-      ≡ replayed_at_zero (replayed_values rules initial (given has default) script) place
+module _ (rules initial : List ℕ) (default : CodeOption (Bor (List ℕ))) (script place : List ℕ) where
+  pub turned_before : (why : Why) → Err why ≡ checking (policy_tested rules initial (lent default))
+      → left_by (turned (record { why = why; at = 0 })) place
+      ≡ replayed_at_zero (replayed_values rules initial (lent default) script) place
   unfolding replayed_values replayed_at_zero
-  turned_before why e = rw (failed (policy_tested rules initial (given has default)) why e)
+  turned_before why e = rw (failed (policy_tested rules initial (lent default)) why e)
 
-  pub replayed_values_lem : Good ≡ checking (policy_tested rules initial (given has default))
+  pub replayed_values_lem : Ok tt ≡ checking (policy_tested rules initial (lent default))
       → replayed_at_zero (replayed_over (min (length rules / rule_width) 1024) initial script) place
-      ≡ replayed_at_zero (replayed_values rules initial (given has default) script) place
+      ≡ replayed_at_zero (replayed_values rules initial (lent default) script) place
   unfolding replayed_values record_count
   replayed_values_lem e =
-      let (is, right) = tests_passed rules initial has default e in
+      let (is, right) = tests_passed rules initial default e in
       rw (is, right.few, catalogue_length 0 rules)

@@ -5,19 +5,16 @@ use Prim.Native.Nat.{ℕ}
 use mathlib.Core.Path.{◌≡◌, sym, ◌∙◌, ap}
 use mathlib.Core.Logic.{◌↔◌}
 use mathlib.Core.List.{List, [], ◌∷◌}
-use borrow.Fn.World.{ArgsD}
 use Rattle.deployment.specs.Contents.{Contents}
 use Rattle.deployment.specs.File.{accepted, read_file, file_of}
 use Rattle.deployment.specs.FieldValues.{FieldValues, Writing, left_by, writing, written_numbers, read_values, TooSmall}
 use Rattle.deployment.specs.Properties.{AreBytes, ValuesFail}
 use Rattle.deployment.specs.Claims.{values_of, AreValues}
-use Rattle.deployment.specs.declared.Written.{Written}
-use Rattle.deployment.specs.declared.Written.TheVariants.{Bytes}
+use Rattle.std.specs.Prelude.{Result, Ok}
+use Rattle.deployment.specs.declared.Refusal.{Refusal}
 use Rattle.deployment.proofs.Lent.{same_left}
-use Rattle.values.specs.Answers.{values_given}
 use Rattle.reader.specs.Answers.{values_gathered, file_read}
 use Rattle.reader.specs.declared.Layout.{Layout}
-use Rattle.reader.specs.declared.FileRead.TheVariants.{Accepted}
 use Rattle.entries.specs.Answers.{written_values}
 use Rattle.entries.specs.WriteClaims.{ReadsBack}
 use Rattle.entries.proofs.WriteClaims.{
@@ -28,57 +25,45 @@ use Rattle.entries.proofs.WriteClaims.{
   refused_for_room,
   refused_for_values,
 }
-use Rattle.entries.specs.contracts.lists.write.{signature}
 use Rattle.entries.proofs.lists.write.Reads as write
 
--- the values and the place that a call is given
-abbrev values : (κ : _) → ArgsD signature κ → FieldValues
-values κ a =
-    let behind = a.1.1.1 in
-    let last = behind.1.1 in
-    values_given a.0.now a.1.0.now a.1.1.0.now behind.0 behind.1.0.now last.0 last.1.0.now last.1.1.0
-    last.1.1.1.0.now
-
-abbrev place : (κ : _) → ArgsD signature κ → List ℕ
-place κ a = a.1.1.1.1.1.1.1.1.1.0.now
-
-pub one_answer : (κ : _) (a : _) (r s : Written) (e f : _) → write.Post κ a r e → write.Post κ a s f
-    → (r ≡ s) × (e.1.1.1.1.1.1.1.1.1.0.now ≡ f.1.1.1.1.1.1.1.1.1.0.now)
+pub one_answer : (κ : _) (a : _) (r s : Result ℕ Refusal) (e f : _) → write.Post κ a r e → write.Post κ a s f
+    → (r ≡ s) × (e.1.0.now ≡ f.1.0.now)
 one_answer κ a r s e f p q = same_left p q
 
 -- "what it writes reads back as the same contents"
-pub what_is_written_reads_back : (κ : _) (a : _) (n : ℕ) (e : _) → write.Post κ a (Bytes n) e → AreValues (values κ a)
-    → ReadsBack (values κ a) (place κ a) e.1.1.1.1.1.1.1.1.1.0.now n
+pub what_is_written_reads_back : (κ : _) (a : _) (n : ℕ) (e : _) → write.Post κ a (Ok n) e → AreValues a.0.now
+    → ReadsBack a.0.now a.1.0.now e.1.0.now n
 what_is_written_reads_back κ a n e p are =
     rw (ap (λ (w : Writing). w.place) p)
-    (written_reads_back (values κ a) (place κ a) n are (sym (ap (λ (w : Writing). w.answer) p)))
+    (written_reads_back a.0.now a.1.0.now n are (sym (ap (λ (w : Writing). w.answer) p)))
 
 -- "those of an accepted file, written, give that file"
-pub an_accepted_file_is_written_again : (κ : _) (a : _) (r : Written) (e : _) → write.Post κ a r e → (file : List ℕ) (c : Contents)
-    → AreBytes file → read_file file ≡ accepted c → values κ a ≡ values_of c
-    → left_by r e.1.1.1.1.1.1.1.1.1.0.now ≡ writing file (place κ a)
+pub an_accepted_file_is_written_again : (κ : _) (a : _) (r : Result ℕ Refusal) (e : _) → write.Post κ a r e → (file : List ℕ) (c : Contents)
+    → AreBytes file → read_file file ≡ accepted c → a.0.now ≡ values_of c
+    → left_by r e.1.0.now ≡ writing file a.1.0.now
 an_accepted_file_is_written_again κ a r e p file c bytes read same =
-    p ∙ ap (λ (v : FieldValues). written_values v (place κ a)) same ∙ accepted_written_again file c (place κ a) bytes read
+    p ∙ ap (λ (v : FieldValues). written_values v a.1.0.now) same ∙ accepted_written_again file c a.1.0.now bytes read
 
-pub a_gathered_file_is_written_again : (κ : _) (a : _) (r : Written) (e : _) → write.Post κ a r e → (file : List ℕ) (layout : Layout)
-    → AreBytes file → file_read file ≡ Accepted layout → values κ a ≡ values_gathered layout file
-    → left_by r e.1.1.1.1.1.1.1.1.1.0.now ≡ writing file (place κ a)
+pub a_gathered_file_is_written_again : (κ : _) (a : _) (r : Result ℕ Refusal) (e : _) → write.Post κ a r e → (file : List ℕ) (layout : Layout)
+    → AreBytes file → file_read file ≡ Ok layout → a.0.now ≡ values_gathered layout file
+    → left_by r e.1.0.now ≡ writing file a.1.0.now
 a_gathered_file_is_written_again κ a r e p file layout bytes read same =
-    p ∙ ap (λ (v : FieldValues). written_values v (place κ a)) same ∙ gathered_written_again file layout (place κ a) bytes read
+    p ∙ ap (λ (v : FieldValues). written_values v a.1.0.now) same ∙ gathered_written_again file layout a.1.0.now bytes read
 
 -- "When turned away, every lent place keeps its bytes"
-pub turned_away_keeps_the_place : (κ : _) (a : _) (r : Written) (e : _) → write.Post κ a r e → (number at : ℕ)
-    → written_numbers r ≡ number ∷ at ∷ [] → e.1.1.1.1.1.1.1.1.1.0.now ≡ place κ a
+pub turned_away_keeps_the_place : (κ : _) (a : _) (r : Result ℕ Refusal) (e : _) → write.Post κ a r e → (number at : ℕ)
+    → written_numbers r ≡ number ∷ at ∷ [] → e.1.0.now ≡ a.1.0.now
 turned_away_keeps_the_place κ a r e p number at turned =
     ap (λ (w : Writing). w.place) p
-    ∙ turned_away_keeps (values κ a) (place κ a) number at (sym (ap (λ (w : Writing). written_numbers w.answer) p) ∙ turned)
+    ∙ turned_away_keeps a.0.now a.1.0.now number at (sym (ap (λ (w : Writing). written_numbers w.answer) p) ∙ turned)
 
 -- 13, and every other number
-pub write_refuses_for_room : (κ : _) (a : _) (r : Written) (e : _) → write.Post κ a r e → (at : ℕ)
-    → (written_numbers r ≡ 13 ∷ at ∷ []) ↔ TooSmall file_of (read_values (values κ a)) (place κ a) at
-write_refuses_for_room κ a r e p at = rw (ap (λ (w : Writing). w.answer) p) (refused_for_room (values κ a) (place κ a) at)
+pub write_refuses_for_room : (κ : _) (a : _) (r : Result ℕ Refusal) (e : _) → write.Post κ a r e → (at : ℕ)
+    → (written_numbers r ≡ 13 ∷ at ∷ []) ↔ TooSmall file_of (read_values a.0.now) a.1.0.now at
+write_refuses_for_room κ a r e p at = rw (ap (λ (w : Writing). w.answer) p) (refused_for_room a.0.now a.1.0.now at)
 
-pub write_refuses_for_values : (κ : _) (a : _) (r : Written) (e : _) → write.Post κ a r e → (number at : ℕ) → ¬ (number ≡ 13)
-    → (written_numbers r ≡ number ∷ at ∷ []) ↔ (ValuesFail (values κ a) number × (at ≡ 0))
+pub write_refuses_for_values : (κ : _) (a : _) (r : Result ℕ Refusal) (e : _) → write.Post κ a r e → (number at : ℕ) → ¬ (number ≡ 13)
+    → (written_numbers r ≡ number ∷ at ∷ []) ↔ (ValuesFail a.0.now number × (at ≡ 0))
 write_refuses_for_values κ a r e p number at other =
-    rw (ap (λ (w : Writing). w.answer) p) (refused_for_values (values κ a) (place κ a) number at other)
+    rw (ap (λ (w : Writing). w.answer) p) (refused_for_values a.0.now a.1.0.now number at other)

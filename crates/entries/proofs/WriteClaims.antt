@@ -10,7 +10,7 @@ use lib.Seq.{take_at, drop_at}
 use Rattle.deployment.specs.File.{Reading, accepted, refused, reading_numbers, file_of}
 use Rattle.deployment.specs.FieldValues.{FieldValues, answered, left_alone, writing, filled, written_numbers, read_values}
 use Rattle.deployment.specs.declared.Refusal.{Refusal}
-use Rattle.deployment.specs.declared.Written.TheVariants.{Bytes, Turned}
+use Rattle.std.specs.Prelude.{Ok, Err}
 use Rattle.deployment.proofs.Lent as lent
 use Rattle.deployment.proofs.FieldValues.{values_written_again}
 use Rattle.deployment.proofs.RefusedValues.{refused_values, values_numbers}
@@ -28,24 +28,24 @@ use Rattle.entries.specs.WriteClaims.{
   RefusedForValues,
 }
 
-bytes_turned {ℓ} : {A : Type ℓ} {n : ℕ} {refusal : Refusal} → Bytes n ≡ Turned refusal → A
+bytes_turned {ℓ} : {A : Type ℓ} {n : ℕ} {refusal : Refusal} → Ok n ≡ Err refusal → A
 bytes_turned e = absurd (let z : ◌≡◌ {A = ℕ} 0 1 = cc in omega arith)
 
 pub turned_away_keeps : TurnedAwayKeeps
 unfolding written_values writing written_numbers
 turned_away_keeps v place =
-    lent.turned_away_keeps written_numbers Turned (λ r. refl) (λ c. Bytes (length (file_of c))) (λ c. refl) file_of (read_values v) place
+    lent.turned_away_keeps written_numbers Err (λ r. refl) (λ c. Ok (length (file_of c))) (λ c. refl) file_of (read_values v) place
 
 pub written_reads_back : WrittenReadsBack
 unfolding filled written_values writing
 written_reads_back v place n are = go (read_values v) refl
   where
     go : (reading : Reading) → read_values v ≡ reading
-        → let left = answered (λ c. writing (file_of c) place) (left_alone Turned place) reading in
-        left.answer ≡ Bytes n → ReadsBack v place left.place n
+        → let left = answered (λ c. writing (file_of c) place) (left_alone Err place) reading in
+        left.answer ≡ Ok n → ReadsBack v place left.place n
     go (refused refusal) read = λ e. bytes_turned (sym e)
     go (accepted c) read =
-        lent.sent_cases Turned (Bytes (length (file_of c))) (file_of c) place (λ w. w.answer ≡ Bytes n → ReadsBack v place w.place n)
+        lent.sent_cases Err (Ok (length (file_of c))) (file_of c) place (λ w. w.answer ≡ Ok n → ReadsBack v place w.place n)
         (λ fits e.
         let long : length (file_of c) ≡ n = cc in
         record {
@@ -73,11 +73,11 @@ not_for_room v at e = ⊎_elim (λ low. omega arith) (λ is. omega arith) (value
 pub refused_for_room : RefusedForRoom
 unfolding written_values writing written_numbers
 refused_for_room v place at =
-    lent.refused_for_room written_numbers Turned (λ r. refl) (λ c. Bytes (length (file_of c))) (λ c. refl) file_of (read_values v) place at (not_for_room v at)
+    lent.refused_for_room written_numbers Err (λ r. refl) (λ c. Ok (length (file_of c))) (λ c. refl) file_of (read_values v) place at (not_for_room v at)
 
 pub refused_for_values : RefusedForValues
 unfolding written_values writing written_numbers
 refused_for_values v place number at other =
     let row = refused_values v number at in
-    let read = lent.refused_for_reading written_numbers Turned (λ r. refl) (λ c. Bytes (length (file_of c))) (λ c. refl) file_of (read_values v) place number at other in
+    let read = lent.refused_for_reading written_numbers Err (λ r. refl) (λ c. Ok (length (file_of c))) (λ c. refl) file_of (read_values v) place number at other in
     (λ e. row.0 (read.0 e), λ h. read.1 (row.1 h))

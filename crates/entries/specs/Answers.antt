@@ -1,6 +1,6 @@
 -- The whole answer of each entry over a file and over field values, with every byte of the lent place: what the crates below answer for
 -- accepted contents, and the refusal of what is read. Assumes nothing.
-use Rattle.std.specs.Prelude.{ℕ, Bool, cond, List, length}
+use Rattle.std.specs.Prelude.{Result, Ok, Err, ℕ, Bool, cond, List, length}
 use Rattle.std.proofs.Math.Option.{Option}
 use Rattle.policy.specs.Policy.{Policy, under, decide, matching}
 use Rattle.policy.specs.Rule.{Rule}
@@ -24,26 +24,20 @@ use Rattle.deployment.specs.FieldValues.{
   Writing,
   writing,
 }
-use Rattle.deployment.specs.declared.Written.TheVariants as written
+use Rattle.deployment.specs.declared.Refusal.{Refusal}
+use Rattle.policy.specs.declared.Verdict.{Verdict}
+use Rattle.plans.specs.declared.Plan.{Plan}
 use Rattle.flows.specs.Flows.{flows_decided}
 use Rattle.replay.specs.Answers.{commands_of}
-use Rattle.last_list.specs.Last.{replay_left, replayed_over}
-use Rattle.last_list.specs.declared.Ran.{Ran}
-use Rattle.last_list.specs.declared.Ran.TheVariants as ran
+use Rattle.last_list.specs.Last.{Ran, turned, replay_left, replayed_over}
 use Rattle.plans.specs.Plans.{Made, placed_plan}
-use Rattle.plans.specs.declared.Planned.{Planned}
-use Rattle.plans.specs.declared.Planned.TheVariants as plans
-use Rattle.judge.specs.declared.Judged.{Judged}
-use Rattle.judge.specs.declared.Judged.TheVariants as judged
-use Rattle.entries.specs.declared.Decided.{Decided}
-use Rattle.entries.specs.declared.Decided.TheVariants as decided
 
 -- "A flow is decided by the first rule that matches": by the target policy, if asked for, or else by the initial one
 unfoldable pub decided_contents : Bool → Flow → Contents → Decision
 decided_contents of-target flow c = decide (matching c.catalogue flow) (cond of-target (target_policy c) (initial_policy c))
 
-unfoldable pub decided_reading : Bool → Flow → Reading → Decided
-decided_reading of-target flow reading = answered (λ c. decided.Is (decided_contents of-target flow c)) decided.Turned reading
+unfoldable pub decided_reading : Bool → Flow → Reading → Result Decision Refusal
+decided_reading of-target flow reading = answered (λ c. Ok (decided_contents of-target flow c)) Err reading
 
 -- rules and a policy over them, which is a list together with its default: "4 for rules not of 27 bytes each, 7, then 5 and 6 rule by rule, then
 -- 4, 8, 9", 4, 50 (02, L1)
@@ -65,23 +59,23 @@ decided_values rules value value_of_default flow = do
   decides ← deciding_values rules value value_of_default
   good (decides flow)
 
-unfoldable pub decided_at_zero : Checked Decision → Decided
-decided_at_zero read = answered_at_zero decided.Is decided.Turned read
+unfoldable pub decided_at_zero : Checked Decision → Result Decision Refusal
+decided_at_zero read = answered_at_zero Ok Err read
 
 -- many flows
 unfoldable pub flows_reading : Bool → List ℕ → Reading → List ℕ → Writing
 flows_reading of-target flows reading place =
-    answered (λ c. flows_decided (λ flow. decided_contents of-target flow c) flows place) (left_alone written.Turned place) reading
+    answered (λ c. flows_decided (λ flow. decided_contents of-target flow c) flows place) (left_alone Err place) reading
 
 unfoldable pub flows_at_zero : Checked (Flow → Decision) → List ℕ → List ℕ → Writing
-flows_at_zero read flows place = answered_at_zero (λ decides. flows_decided decides flows place) (left_alone written.Turned place) read
+flows_at_zero read flows place = answered_at_zero (λ decides. flows_decided decides flows place) (left_alone Err place) read
 
 -- "replays from the initial policy"
 unfoldable pub replayed_contents : Contents → Replayed
 replayed_contents c = replay (length c.catalogue) c.initial (commands_of c.script)
 
 unfoldable pub replayed_reading : Reading → List ℕ → Left Ran
-replayed_reading reading place = answered (λ c. replay_left place (replayed_contents c)) (left_alone ran.Turned place) reading
+replayed_reading reading place = answered (λ c. replay_left place (replayed_contents c)) (left_alone turned place) reading
 
 -- the same tests before those of the script; a command edits the list and leaves the default
 unfoldable pub replayed_values : List ℕ → List ℕ → Option (List ℕ) → List ℕ → Checked Replayed
@@ -90,16 +84,16 @@ replayed_values rules initial value_of_default script = do
   replayed_over (length passed.0) initial script
 
 -- a plan
-unfoldable pub planned : (Contents → Made) → Reading → List ℕ → Left Planned
-planned planner reading place = answered (λ c. placed_plan (planner c) place) (left_alone plans.Turned place) reading
+unfoldable pub planned : (Contents → Made) → Reading → List ℕ → Left (Result Plan Refusal)
+planned planner reading place = answered (λ c. placed_plan (planner c) place) (left_alone Err place) reading
 
 -- the verdict
-unfoldable pub judged_contents : Contents → Judged
-judged_contents c = judged.Said (verdict (length c.catalogue) c.initial c.target (commands_of c.script))
+unfoldable pub judged_contents : Contents → Result Verdict Refusal
+judged_contents c = Ok (verdict (length c.catalogue) c.initial c.target (commands_of c.script))
 
-unfoldable pub judged_reading : Reading → Judged
-judged_reading reading = answered judged_contents judged.Turned reading
+unfoldable pub judged_reading : Reading → Result Verdict Refusal
+judged_reading reading = answered judged_contents Err reading
 
 -- the file
 unfoldable pub written_values : FieldValues → List ℕ → Writing
-written_values v place = answered (λ c. writing (file_of c) place) (left_alone written.Turned place) (read_values v)
+written_values v place = answered (λ c. writing (file_of c) place) (left_alone Err place) (read_values v)

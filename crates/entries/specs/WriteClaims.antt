@@ -1,15 +1,13 @@
 -- What a customer buys of the writer, about the definitions. Each claim is a statement; proofs/WriteClaims.antt has, for each, a proof of the
 -- same name in small letters with hyphens. Assumes nothing.
-use Rattle.std.specs.Prelude.{ℕ, ◌≡◌, ◌↔◌, List, [], ◌∷◌, take, drop}
+use Rattle.std.specs.Prelude.{Ok, ℕ, ◌≡◌, ◌↔◌, List, [], ◌∷◌, take, drop}
 use Rattle.deployment.specs.Contents.{Contents}
 use Rattle.deployment.specs.File.{accepted, read_file, file_of}
 use Rattle.deployment.specs.FieldValues.{FieldValues, writing, written_numbers, read_values, TooSmall}
 use Rattle.deployment.specs.Properties.{AreBytes, ValuesFail}
 use Rattle.deployment.specs.Claims.{values_of, AreValues}
-use Rattle.deployment.specs.declared.Written.TheVariants.{Bytes}
 use Rattle.reader.specs.Answers.{values_gathered, file_read}
 use Rattle.reader.specs.declared.Layout.{Layout}
-use Rattle.reader.specs.declared.FileRead.TheVariants.{Accepted}
 use Rattle.entries.specs.Answers.{written_values}
 
 -- "what it writes reads back as the same contents", and "the rest keep theirs"
@@ -21,7 +19,7 @@ pub record ReadsBack (v : FieldValues) (before after : List ℕ) (n : ℕ) : Typ
 
 abbrev pub WrittenReadsBack : Type 0
 WrittenReadsBack =
-    (v : FieldValues) (place : List ℕ) (n : ℕ) → AreValues v → (written_values v place).answer ≡ Bytes n
+    (v : FieldValues) (place : List ℕ) (n : ℕ) → AreValues v → (written_values v place).answer ≡ Ok n
     → ReadsBack v place (written_values v place).place n
 
 -- "those of an accepted file, written, give that file"
@@ -33,7 +31,7 @@ AcceptedWrittenAgain =
 -- and so do its parts, gathered
 abbrev pub GatheredWrittenAgain : Type 0
 GatheredWrittenAgain =
-    (file : List ℕ) (layout : Layout) (place : List ℕ) → AreBytes file → file_read file ≡ Accepted layout
+    (file : List ℕ) (layout : Layout) (place : List ℕ) → AreBytes file → file_read file ≡ Ok layout
     → written_values (values_gathered layout file) place ≡ writing file place
 
 -- "When turned away, every lent place keeps its bytes"

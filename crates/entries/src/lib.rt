@@ -4,15 +4,5 @@
 
 #![tactic(auto)]
 
-use deployment::Refusal;
-use policy::Decision;
-
 pub mod files;
 pub mod lists;
-
-// A flow's decision, or why the bytes are turned away.
-#[derive(Clone, Copy)]
-pub enum Decided {
-    Is(Decision),
-    Turned(Refusal),
-}

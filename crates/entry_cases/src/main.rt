@@ -6,25 +6,31 @@
 #![tactic(auto)]
 
 use cases::{
-    MOST_READ, argument_count, bytes_at, checksum, next_place, print_bytes, print_number,
-    print_reading, print_refusal, read_argument,
+    bytes_at, checksum, each_case, each_file, given, next_place, print_bytes, print_number,
+    print_reading, print_refusal,
 };
-use catalogue::Checking;
-use deployment::Written;
-use entries::{Decided, files, lists};
+use deployment::{Refusal, Why};
+use entries::lists::Values;
+use entries::{files, lists};
 use format::number_at;
-use judge::Judged;
-use last_list::Ran;
-use numbers::{fault_number, why_number};
-use plans::Planned;
-use policy::{Action, Decision, Fault, Flow, Verdict};
-use std::env::Env;
-use std::rt::Files;
+use plans::Plan;
+use policy::{Action, Decision, Flow, Verdict};
+use replay::Stop;
 
 // What a lent place holds before a call.
 const LENT: u8 = 165;
 
-// Which word of the lines is which; a line's end stands with the next line's word. An answer that fills a place goes by the number of its word.
+// The answers that fill a place.
+#[derive(Clone, Copy, Debug, PartialEq, Eq)]
+enum Filling {
+    Replay,
+    PlanOne,
+    PlanTwo,
+    ByInitial,
+    ByTarget,
+}
+
+// Which word of the lines is which; a line's end stands with the next line's word.
 const READ: usize = 0;
 
 const TO_JUDGE: usize = 1;
@@ -133,10 +139,8 @@ const FLOWS: usize = 6;
 // The place where the part with this number starts, of those that start at a place of a row.
 fn part_place(row: &[u8], from: usize, number: usize) -> usize {
     let mut at = from;
-    let mut i = 0;
-    while i < number {
+    for _ in 0..number {
         at = next_place(row, at);
-        i += 1;
     }
     at
 }
@@ -158,24 +162,23 @@ fn say<R: Print>(rt: &R, words: &[u8], number: usize, n: usize) {
 }
 
 fn print_decision<R: Print>(rt: &R, words: &[u8], decision: Decision) {
-    let action = decision.action;
-    match action {
+    match decision.action {
         Action::Permit => say(rt, words, PERMIT, decision.place),
         Action::Deny => say(rt, words, DENY, decision.place),
     }
 }
 
-fn print_decided<R: Print>(rt: &R, words: &[u8], answer: Decided) {
+fn print_decided<R: Print>(rt: &R, words: &[u8], answer: Result<Decision, Refusal>) {
     match answer {
-        Decided::Turned(refusal) => print_refusal(rt, refusal),
-        Decided::Is(decision) => print_decision(rt, words, decision),
+        Err(refusal) => print_refusal(rt, refusal),
+        Ok(decision) => print_decision(rt, words, decision),
     }
 }
 
 fn print_verdict<R: Print>(rt: &R, words: &[u8], verdict: Verdict) {
     match verdict {
         Verdict::Broken(fault, step) => {
-            say(rt, words, VERDICT, fault_number(fault) as usize);
+            say(rt, words, VERDICT, u8::from(fault) as usize);
             say(rt, words, SPACE, step);
         }
         Verdict::Elsewhere(count) => say(rt, words, ELSEWHERE, count),
@@ -188,38 +191,38 @@ fn print_verdict<R: Print>(rt: &R, words: &[u8], verdict: Verdict) {
     }
 }
 
-fn print_judged<R: Print>(rt: &R, words: &[u8], answer: Judged) {
+fn print_judged<R: Print>(rt: &R, words: &[u8], answer: Result<Verdict, Refusal>) {
     match answer {
-        Judged::Turned(refusal) => print_refusal(rt, refusal),
-        Judged::Said(verdict) => print_verdict(rt, words, verdict),
+        Err(refusal) => print_refusal(rt, refusal),
+        Ok(verdict) => print_verdict(rt, words, verdict),
     }
 }
 
-fn print_checking<R: Print>(rt: &R, words: &[u8], answer: Checking) {
+fn print_checking<R: Print>(rt: &R, words: &[u8], answer: Result<(), Why>) {
     match answer {
-        Checking::Good => print(rt, words, GOOD),
-        Checking::Bad(why) => {
-            say(rt, words, CHECK, why_number(why) as usize);
+        Ok(()) => print(rt, words, GOOD),
+        Err(why) => {
+            say(rt, words, CHECK, u8::from(why) as usize);
             print(rt, words, END);
         }
     }
 }
 
-fn print_ran<R: Print>(rt: &R, words: &[u8], answer: Ran) {
+fn print_ran<R: Print>(rt: &R, words: &[u8], answer: Result<usize, Stop<Refusal>>) {
     match answer {
-        Ran::Turned(refusal) => print_refusal(rt, refusal),
-        Ran::Ended(bytes) => say(rt, words, ENDED, bytes),
-        Ran::Broken(fault, step) => {
-            say(rt, words, BROKEN, fault_number(fault) as usize);
+        Err(Stop::Turned(refusal)) => print_refusal(rt, refusal),
+        Ok(bytes) => say(rt, words, ENDED, bytes),
+        Err(Stop::Broken(fault, step)) => {
+            say(rt, words, BROKEN, u8::from(fault) as usize);
             say(rt, words, AT, step);
         }
     }
 }
 
-fn print_planned<R: Print>(rt: &R, words: &[u8], answer: Planned) {
+fn print_planned<R: Print>(rt: &R, words: &[u8], answer: Result<Plan, Refusal>) {
     match answer {
-        Planned::Turned(refusal) => print_refusal(rt, refusal),
-        Planned::Done(plan) => {
+        Err(refusal) => print_refusal(rt, refusal),
+        Ok(plan) => {
             say(rt, words, KEPT, plan.kept);
             say(rt, words, COMMANDS, plan.commands);
             say(rt, words, AND_BYTES, plan.bytes);
@@ -227,10 +230,10 @@ fn print_planned<R: Print>(rt: &R, words: &[u8], answer: Planned) {
     }
 }
 
-fn print_written<R: Print>(rt: &R, words: &[u8], answer: Written) {
+fn print_written<R: Print>(rt: &R, words: &[u8], answer: Result<usize, Refusal>) {
     match answer {
-        Written::Turned(refusal) => print_refusal(rt, refusal),
-        Written::Bytes(bytes) => say(rt, words, BYTES, bytes),
+        Err(refusal) => print_refusal(rt, refusal),
+        Ok(bytes) => say(rt, words, BYTES, bytes),
     }
 }
 
@@ -264,41 +267,42 @@ fn read_file<R: Print>(rt: &R, words: &[u8], file: &[u8], flow: Flow) {
     print_judged(rt, words, files::judge(file));
 }
 
-fn check_lists(case: &[u8]) -> Checking {
-    lists::check(
-        part(case, RULES),
-        part(case, INITIAL),
-        part(case, TARGET),
-        number_at(case, HAS_DEFAULT) == 1,
-        part(case, DEFAULT),
-        number_at(case, HAS_KEEP) == 1,
-        part(case, KEEP),
-        number_at(case, HAS_SCRIPT) == 1,
-        part(case, SCRIPT),
-    )
+// A part that is there if the number says so.
+fn part_if<'a>(case: &'a [u8], flag: usize, number: usize) -> Option<&'a [u8]> {
+    given(number_at(case, flag) == 1, part(case, number))
 }
 
-fn decide_list(case: &[u8], list: usize, flow: Flow) -> Decided {
+fn values<'a>(case: &'a [u8]) -> Values<'a> {
+    Values {
+        rules: part(case, RULES),
+        initial: part(case, INITIAL),
+        target: part(case, TARGET),
+        default: part_if(case, HAS_DEFAULT, DEFAULT),
+        keep: part_if(case, HAS_KEEP, KEEP),
+        script: part_if(case, HAS_SCRIPT, SCRIPT),
+    }
+}
+
+fn check_lists(case: &[u8]) -> Result<(), Why> {
+    lists::check(&values(case))
+}
+
+fn decide_list(case: &[u8], list: usize, flow: Flow) -> Result<Decision, Refusal> {
     lists::decide(
         part(case, RULES),
         part(case, list),
-        number_at(case, HAS_DEFAULT) == 1,
-        part(case, DEFAULT),
+        part_if(case, HAS_DEFAULT, DEFAULT),
         flow,
     )
 }
 
-fn judge_lists(case: &[u8]) -> Judged {
-    lists::judge(
-        part(case, RULES),
-        part(case, INITIAL),
-        part(case, TARGET),
-        number_at(case, HAS_DEFAULT) == 1,
-        part(case, DEFAULT),
-        number_at(case, HAS_KEEP) == 1,
-        part(case, KEEP),
-        part(case, SCRIPT),
-    )
+// The judge's script is there whatever the case says.
+fn judge_lists(case: &[u8]) -> Result<Verdict, Refusal> {
+    let judged = Values {
+        script: Some(part(case, SCRIPT)),
+        ..values(case)
+    };
+    lists::judge(&judged)
 }
 
 fn read_lists<R: Print>(rt: &R, words: &[u8], case: &[u8], flow: Flow) {
@@ -311,94 +315,47 @@ fn read_lists<R: Print>(rt: &R, words: &[u8], case: &[u8], flow: Flow) {
     print_judged(rt, words, judge_lists(case));
 }
 
-fn plan_lists(case: &[u8], second: bool, place: &mut [u8]) -> Planned {
-    let rules = part(case, RULES);
-    let initial = part(case, INITIAL);
-    let target = part(case, TARGET);
-    let has_default = number_at(case, HAS_DEFAULT) == 1;
-    let default = part(case, DEFAULT);
-    let has_keep = number_at(case, HAS_KEEP) == 1;
-    let keep = part(case, KEEP);
-    let has_script = number_at(case, HAS_SCRIPT) == 1;
-    let script = part(case, SCRIPT);
-    if second {
-        lists::plan_two(
-            rules,
-            initial,
-            target,
-            has_default,
-            default,
-            has_keep,
-            keep,
-            has_script,
-            script,
-            place,
-        )
-    } else {
-        lists::plan_one(
-            rules,
-            initial,
-            target,
-            has_default,
-            default,
-            has_keep,
-            keep,
-            has_script,
-            script,
-            place,
-        )
-    }
-}
-
-fn replay_lists(case: &[u8], place: &mut [u8]) -> Ran {
+fn replay_lists(case: &[u8], place: &mut [u8]) -> Result<usize, Stop<Refusal>> {
     lists::replay(
         part(case, RULES),
         part(case, INITIAL),
-        number_at(case, HAS_DEFAULT) == 1,
-        part(case, DEFAULT),
+        part_if(case, HAS_DEFAULT, DEFAULT),
         part(case, SCRIPT),
         place,
     )
 }
 
-fn decide_lists(case: &[u8], list: usize, place: &mut [u8]) -> Written {
+fn decide_lists(case: &[u8], list: usize, place: &mut [u8]) -> Result<usize, Refusal> {
     lists::decide_flows(
         part(case, RULES),
         part(case, list),
-        number_at(case, HAS_DEFAULT) == 1,
-        part(case, DEFAULT),
+        part_if(case, HAS_DEFAULT, DEFAULT),
         part(case, FLOWS),
         place,
     )
 }
 
-fn fill_by_lists<R: Print>(rt: &R, words: &[u8], case: &[u8], asked: usize, place: &mut [u8]) {
-    if asked == REPLAY {
-        print_ran(rt, words, replay_lists(case, place));
-    } else if asked == PLAN_ONE {
-        print_planned(rt, words, plan_lists(case, false, place));
-    } else if asked == PLAN_TWO {
-        print_planned(rt, words, plan_lists(case, true, place));
-    } else if asked == BY_INITIAL {
-        print_written(rt, words, decide_lists(case, INITIAL, place));
-    } else {
-        print_written(rt, words, decide_lists(case, TARGET, place));
+fn fill_by_lists<R: Print>(rt: &R, words: &[u8], case: &[u8], asked: Filling, place: &mut [u8]) {
+    match asked {
+        Filling::Replay => print_ran(rt, words, replay_lists(case, place)),
+        Filling::PlanOne => print_planned(rt, words, lists::plan_one(&values(case), place)),
+        Filling::PlanTwo => print_planned(rt, words, lists::plan_two(&values(case), place)),
+        Filling::ByInitial => print_written(rt, words, decide_lists(case, INITIAL, place)),
+        Filling::ByTarget => print_written(rt, words, decide_lists(case, TARGET, place)),
     }
 }
 
-fn decide_file(case: &[u8], of_target: bool, place: &mut [u8]) -> Written {
+fn decide_file(case: &[u8], of_target: bool, place: &mut [u8]) -> Result<usize, Refusal> {
     files::decide_flows(part(case, FILE), of_target, part(case, FILE_FLOWS), place)
 }
 
-fn fill_by_file<R: Print>(rt: &R, words: &[u8], case: &[u8], asked: usize, place: &mut [u8]) {
-    if asked == REPLAY {
-        print_ran(rt, words, files::replay(part(case, FILE), place));
-    } else if asked == PLAN_ONE {
-        print_planned(rt, words, files::plan_one(part(case, FILE), place));
-    } else if asked == PLAN_TWO {
-        print_planned(rt, words, files::plan_two(part(case, FILE), place));
-    } else {
-        print_written(rt, words, decide_file(case, asked == BY_TARGET, place));
+fn fill_by_file<R: Print>(rt: &R, words: &[u8], case: &[u8], asked: Filling, place: &mut [u8]) {
+    match asked {
+        Filling::Replay => print_ran(rt, words, files::replay(part(case, FILE), place)),
+        Filling::PlanOne => print_planned(rt, words, files::plan_one(part(case, FILE), place)),
+        Filling::PlanTwo => print_planned(rt, words, files::plan_two(part(case, FILE), place)),
+        Filling::ByInitial => print_written(rt, words, decide_file(case, false, place)),
+        Filling::ByTarget => print_written(rt, words, decide_file(case, true, place)),
     }
 }
 
@@ -406,7 +363,7 @@ fn is_over_lists(case: &[u8]) -> bool {
     number_at(case, OVER_LISTS) == 1
 }
 
-fn fill<R: Print>(rt: &R, words: &[u8], case: &[u8], asked: usize, place: &mut [u8]) {
+fn fill<R: Print>(rt: &R, words: &[u8], case: &[u8], asked: Filling, place: &mut [u8]) {
     if is_over_lists(case) {
         fill_by_lists(rt, words, case, asked, place);
     } else {
@@ -414,16 +371,27 @@ fn fill<R: Print>(rt: &R, words: &[u8], case: &[u8], asked: usize, place: &mut [
     }
 }
 
-fn print_filled<R: Print>(rt: &R, words: &[u8], case: &[u8], asked: usize, place: &mut [u8]) {
+fn print_filled<R: Print>(rt: &R, words: &[u8], case: &[u8], asked: Filling, place: &mut [u8]) {
     fill(rt, words, case, asked, place);
     say(rt, words, PLACE, checksum(place, true) as usize);
 }
 
+// The word before the answer.
+fn word_before(asked: Filling) -> usize {
+    match asked {
+        Filling::Replay => REPLAY,
+        Filling::PlanOne => PLAN_ONE,
+        Filling::PlanTwo => PLAN_TWO,
+        Filling::ByInitial => BY_INITIAL,
+        Filling::ByTarget => BY_TARGET,
+    }
+}
+
 // The lent place is the first bytes of a room that has as many as two bytes can say.
-fn print_lent<R: Print>(rt: &R, words: &[u8], case: &[u8], asked: usize) {
+fn print_lent<R: Print>(rt: &R, words: &[u8], case: &[u8], asked: Filling) {
     let mut room = [LENT; 65536];
     let size = number_at(case, ROOM) as usize;
-    print(rt, words, asked);
+    print(rt, words, word_before(asked));
     print_filled(rt, words, case, asked, &mut room[..size]);
 }
 
@@ -437,36 +405,20 @@ fn print_read<R: Print>(rt: &R, words: &[u8], case: &[u8]) {
 
 fn print_case<R: Print>(rt: &R, words: &[u8], case: &[u8]) {
     print_read(rt, words, case);
-    print_lent(rt, words, case, REPLAY);
-    print_lent(rt, words, case, PLAN_ONE);
-    print_lent(rt, words, case, PLAN_TWO);
-    print_lent(rt, words, case, BY_INITIAL);
-    print_lent(rt, words, case, BY_TARGET);
+    print_lent(rt, words, case, Filling::Replay);
+    print_lent(rt, words, case, Filling::PlanOne);
+    print_lent(rt, words, case, Filling::PlanTwo);
+    print_lent(rt, words, case, Filling::ByInitial);
+    print_lent(rt, words, case, Filling::ByTarget);
     print(rt, words, END);
 }
 
-fn print_row<R: Print>(rt: &R, words: &[u8], row: &[u8]) {
-    let mut at = 0;
-    while at < row.len() {
-        print_case(rt, words, bytes_at(row, at));
-        at = next_place(row, at);
-    }
-}
-
-// The words of all lines are a row, each behind its length.
-fn print_argument<R: Env + Files + Print>(rt: &R, i: usize) {
+fn main(rt: HostRuntime) {
+    // The words of all lines are a row, each behind its length.
     let words =
         b"\x00\x05read \x00\x0eread to judge \x00\x08initial \x00\x08\ntarget \x00\x07\njudge \x00\x08\nreplay \x00\x08\nplan 1 \x00\x08\nplan 2 \x00\x12\nflows by initial \x00\x11\nflows by target \x00\x07 place \x00\x01\n\x00\x07permit \x00\x05deny \x00\x0bcheck good\n\x00\x06check \x00\x08verdict \x00\x0bverdict 24 \x00\x0bverdict 30 \x00\x0averdict 31\x00\x0averdict 32\x00\x01 \x00\x07broken \x00\x04 at \x00\x06ended \x00\x05kept \x00\x0a commands \x00\x07 bytes \x00\x06bytes ";
-    let mut row = [0u8; MOST_READ];
-    let got = read_argument(rt, i, &mut row);
-    print_row(rt, words, &row[..got]);
-}
-
-fn main(rt: HostRuntime) {
-    let count = argument_count(&rt);
-    let mut i = 1;
-    while i < count {
-        print_argument(&rt, i);
-        i += 1;
-    }
+    each_file(
+        &rt,
+        |row| each_case(row, |case| print_case(&rt, words, case)),
+    );
 }

@@ -1,15 +1,21 @@
 -- Looking through the rules of a running list: what stands at an index, and what is found from an index on. Assumes nothing.
-use Prim.Native.Nat.{ℕ, suc, ◌+◌, ◌≤◌, ◌<◌}
-use native.Mathlib.Numerals.{add-one}
+use Prim.Native.Nat.{ℕ, ◌+◌, ◌-◌, ◌≤◌, ◌<◌}
 use native.Mathlib.Omega.{arith}
-use mathlib.Core.Path.{◌≡◌, sym}
-use mathlib.Core.Bool.{Bool, true, false}
+use mathlib.Core.Path.{◌≡◌, refl, sym, ◌∙◌, ap}
+use mathlib.Core.Bool.{Bool, cond}
 use mathlib.Core.List.{List, [], ◌∷◌}
-use lib.ListN.{length, drop, get_or, length-take, length-drop, drop_of_length-le}
-use lib.Seq.{drop-cons, get_or-take}
+use borrow.Author.Tests.{ltb-false}
+use lib.Dec.{ltb}
+use lib.ListN.{length, take, drop, get_or, length-take, length-drop}
+use lib.Seq.{get_or-take}
+use Rattle.std.specs.Prelude.{Option as CodeOption, Some, None}
+use Rattle.std.specs.List.{position_or_len}
+use Rattle.std.proofs.lemmas.List.{drop-take}
+use Rattle.std.proofs.lemmas.List.Recursion.{is_position_or_len}
 use Rattle.policy.proofs.Tests.{by_test}
 use Rattle.running.specs.declared.Running.{Running}
 use Rattle.running.specs.Running.{view}
+use Rattle.running.proofs.Edits.{view_count}
 use Rattle.first_stage.specs.Looking.{until}
 
 -- the rule at an index of the list that is shown
@@ -26,24 +32,29 @@ until_fits test (x ∷ l) = by_test (test x) (λ t. rw t (omega arith)) (λ f. r
 pub found_fits : (test : ℕ → Bool) (l : List ℕ) (from at : ℕ) → from ≤ length l → at ≡ from + until test (drop from l) → at ≤ length l
 found_fits test l from at inside e = omega (arith, until_fits test (drop from l), length-drop from l)
 
--- Where the first rule is found that passes a test: from index k on as many stand before it as are left of those from the start on.
+-- the rules of the list that are shown from an index on
+pub rest_shown : (list : Running) (from len : ℕ) → len ≡ length (view list) → from ≤ len → take (len - from) (drop from list.rules) ≡ drop from (view list)
+rest_shown list from len is inside =
+    let whole : from + (len - from) ≡ len = omega arith in
+    sym (drop-take from (len - from) list.rules) ∙ rw whole (ap (drop from) (view_count list len is))
+
+-- What `position` finds is how many rules come before.
 module _ (test : ℕ → Bool) (l : List ℕ) where
-  abbrev pub Seeking : ℕ → ℕ → Type 0
-  Seeking from k = k + until test (drop k l) ≡ from + until test (drop from l)
+  until_is : until test l ≡ position_or_len test l
+  unfolding until
+  until_is = is_position_or_len (until test) test refl (λ x rest. ap (cond (test x) 0) (omega arith)) l
 
-  module _ (from k : ℕ) (seeking : Seeking from k) where
-    pub seek_past : k < length l → test (get_or l k 0) ≡ false → Seeking from (k + 1)
-    unfolding until
-    seek_past more fails =
-        let one : until test (drop k l) ≡ suc (until test (drop (suc k) l)) = rw (drop-cons l k 0 more, fails) in
-        rw add-one (omega arith)
+  abbrev pub Found : CodeOption ℕ
+  Found = cond (ltb (position_or_len test l) (length l)) (Some (position_or_len test l)) None
 
-    pub seek_here : k < length l → test (get_or l k 0) ≡ true → k ≡ from + until test (drop from l)
-    unfolding until
-    seek_here more passes =
-        let none : until test (drop k l) ≡ 0 = rw (drop-cons l k 0 more, passes) in
-        omega arith
+  pub found_some : (answer : CodeOption ℕ) (k : ℕ) → answer ≡ Found → answer ≡ Some k → k ≡ until test l
+  found_some answer k is some =
+      by_test (ltb (position_or_len test l) (length l))
+      (λ t. let there : answer ≡ Some (position_or_len test l) = rw t at is in let same : k ≡ position_or_len test l = cc in same ∙ sym until_is)
+      (λ f. absurd (let none : answer ≡ None = rw f at is in cc))
 
-    pub seek_ends : length l ≤ k → k ≡ from + until test (drop from l)
-    unfolding until
-    seek_ends end = omega (arith, rw (drop_of_length-le l {i = k} end) at seeking)
+  pub found_none : (answer : CodeOption ℕ) → answer ≡ Found → answer ≡ None → length l ≡ until test l
+  found_none answer is none =
+      by_test (ltb (position_or_len test l) (length l))
+      (λ t. absurd (let there : answer ≡ Some (position_or_len test l) = rw t at is in cc))
+      (λ f. omega (arith, ltb-false _ _ f, until_is, until_fits test l))

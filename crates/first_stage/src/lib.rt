@@ -12,12 +12,12 @@ ghost use Rattle.policy.specs.Policy.{most_rules, most_listed};
 ghost use Rattle.running.specs.Running.{view};
 ghost use Rattle.places.specs.Places.{renumbered};
 ghost use Rattle.deployment.specs.Values.{coded_bytes};
-ghost use Rattle.plans.specs.Sending.{most_planned, field_width};
+ghost use Rattle.plans.specs.Sending.{most_planned};
 ghost use Rattle.first_stage.specs.Looking.{until};
 ghost use Rattle.first_stage.specs.FirstStage.{Took, FirstStage};
 
 use places::{Places, place_of};
-use plans::field::put;
+use plans::field::{FIELD_BYTES, put};
 use policy::{Command, MOST_RULES};
 use running::Running;
 
@@ -45,15 +45,10 @@ fn seek(list: Running, from: usize, r: u16) -> usize
     ensures { result ≡ from + until (λ x. eqb x r) (drop from (view list)) }
 {
     let len = list.count();
-    let rules = list.rules;
-    let mut k = from;
-    while k < len {
-        if rules[k] == r {
-            return k;
-        }
-        k += 1;
+    match list.rules[from..len].iter().position(|rule| *rule == r) {
+        Some(before) => from + before,
+        None => len,
     }
-    k
 }
 
 impl Stage {
@@ -84,9 +79,8 @@ impl Stage {
 }
 
 // One rule of the target: whether it is in the initial policy, and whether it is kept.
-fn take_one(stage: Stage, r: u16, old: bool, keep: bool, field: &mut [u8]) -> Stage
-    requires { (stage.front ≤ length (view stage.list)) × (length (view stage.list) < most_rules) × (r < most_rules) × (stage.sent < most_planned)
-        × (length field.old ≡ field_width) }
+fn take_one(stage: Stage, r: u16, old: bool, keep: bool, field: &mut [u8; FIELD_BYTES]) -> Stage
+    requires { (stage.front ≤ length (view stage.list)) × (length (view stage.list) < most_rules) × (r < most_rules) × (stage.sent < most_planned) }
     ensures { Took stage r old keep field.old result field.new }
 {
     let front = stage.front;
@@ -120,28 +114,30 @@ fn take_one(stage: Stage, r: u16, old: bool, keep: bool, field: &mut [u8]) -> St
 }
 
 // "First stage. The front of the running list starts empty. Take the target's rules in order."
-pub fn stage_one(initial: Running, target: Running, kept: Running, field: &mut [u8]) -> Stage
-    requires { Accepted most_rules (view initial) (view target) (some (view kept)) × (length (view initial) ≤ most_listed) × (length (view target) ≤ most_listed)
-        × (length field.old ≡ field_width) }
+pub fn stage_one(
+    initial: Running,
+    target: Running,
+    kept: Running,
+    field: &mut [u8; FIELD_BYTES],
+) -> Stage
+    requires { Accepted most_rules (view initial) (view target) (some (view kept)) × (length (view initial) ≤ most_listed) × (length (view target) ≤ most_listed) }
     ensures { FirstStage (view initial) (view target) (view kept) field.old result field.new }
 {
     let of = places_of(initial);
     let kept_of = places_of(kept);
     let len = target.count();
-    let rules = target.rules;
     let mut stage = Stage {
         list: initial,
         front: 0,
         settled: [false; MOST_RULES],
         sent: 0,
     };
-    for j in 0..len {
-        let r = rules[j];
+    for r in &target.rules[..len] {
         stage = take_one(
             stage,
-            r,
-            place_of(&of, r) != 0,
-            place_of(&kept_of, r) != 0,
+            *r,
+            place_of(&of, *r) != 0,
+            place_of(&kept_of, *r) != 0,
             field,
         );
     }

@@ -17,7 +17,7 @@ use Rattle.deployment.specs.Flows.{flow_of, decision_of, decision_bytes, decisio
 use Rattle.deployment.specs.FieldValues.{Writing, left_by, filled, writing}
 use Rattle.deployment.specs.declared.Why.TheVariants.{Length, Room}
 use Rattle.deployment.specs.declared.Refusal.{Refusal}
-use Rattle.deployment.specs.declared.Written.TheVariants.{Bytes, Turned}
+use Rattle.std.specs.Prelude.{Ok, Err}
 use Rattle.deployment.proofs.Flows.{made_of_flow, decision_at_lem, decision_reads_back}
 use Rattle.flows.specs.Flows.{flows_decided}
 use Rattle.flows.specs.Claims.{
@@ -36,11 +36,11 @@ use Rattle.flows.proofs.ManyFlows.{decisions, how_many, size_needed}
 
 -- The three answers to flows.
 module _ {ℓ} (P : Writing → Type ℓ) (decides : Flow → Decision) (flows place : List ℕ) where
-  flows_cases : (¬ (length flows % 13 ≡ 0) → P (left_by (Turned (record { why = Length; at = 0 })) place))
+  flows_cases : (¬ (length flows % 13 ≡ 0) → P (left_by (Err (record { why = Length; at = 0 })) place))
       → (length flows % 13 ≡ 0 → length place < 3 * (length flows / 13)
-      → P (left_by (Turned (record { why = Room; at = 3 * (length flows / 13) })) place))
+      → P (left_by (Err (record { why = Room; at = 3 * (length flows / 13) })) place))
       → (length flows % 13 ≡ 0 → 3 * (length flows / 13) ≤ length place
-      → P (left_by (Bytes (3 * (length flows / 13))) (filled place (decisions_bytes (decisions decides flows place)))))
+      → P (left_by (Ok (3 * (length flows / 13))) (filled place (decisions_bytes (decisions decides flows place)))))
       → P (flows_decided decides flows place)
   unfolding flows_decided writing
   flows_cases uneven small fits =
@@ -54,10 +54,10 @@ module _ {ℓ} (P : Writing → Type ℓ) (decides : Flow → Decision) (flows p
       (λ odd. rw odd (uneven (eqb-false (length flows % 13) 0 odd)))
 
 -- An answer is one of the two.
-pub not_both {ℓ} : {A : Type ℓ} {n : ℕ} {refusal : Refusal} → Turned refusal ≡ Bytes n → A
+pub not_both {ℓ} : {A : Type ℓ} {n : ℕ} {refusal : Refusal} → Err refusal ≡ Ok n → A
 not_both e = absurd (let z : ◌≡◌ {A = ℕ} 0 1 = cc in omega arith)
 
-turned_with : (r : Refusal) (number at : ℕ) → TurnedWith (Turned r) number at ↔ ((why_number r.why ≡ number) × (r.at ≡ at))
+turned_with : (r : Refusal) (number at : ℕ) → TurnedWith (Err r) number at ↔ ((why_number r.why ≡ number) × (r.at ≡ at))
 turned_with r number at = (
   λ t. let same : t.0 ≡ r = cc in (ap (λ (s : Refusal). why_number s.why) (sym same) ∙ t.2, ap (λ (s : Refusal). s.at) (sym same) ∙ t.3),
   λ h. (r, refl, h.0, h.1),
@@ -95,7 +95,7 @@ pub flows_written : FlowsWritten
 flows_written decides flows place n =
     flows_cases
     (λ w.
-    (w.answer ≡ Bytes n)
+    (w.answer ≡ Ok n)
     ↔ ((length flows % 13 ≡ 0) × (3 * (length flows / 13) ≤ length place) × (n ≡ 3 * (length flows / 13))))
     decides flows place
     (λ odd. (λ e. not_both e, λ h. absurd (odd h.0)))
@@ -132,5 +132,5 @@ module _ (flows place : List ℕ) (n k : ℕ) (inside : k < length flows / 13) w
 
 pub each_decided : EachDecided
 each_decided flows place n k inside decides short =
-    flows_cases (λ w. w.answer ≡ Bytes n → decides (flow_at k flows) ≡ decision_at k w.place) decides flows place
+    flows_cases (λ w. w.answer ≡ Ok n → decides (flow_at k flows) ≡ decision_at k w.place) decides flows place
     (λ odd e. not_both e) (λ whole small e. not_both e) (λ whole fits e. kth_decided flows place n k inside decides short)

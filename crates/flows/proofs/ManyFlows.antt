@@ -17,7 +17,7 @@ use Rattle.deployment.specs.Values.{action_number}
 use Rattle.deployment.specs.FieldValues.{Stored, left_by, filled, writing}
 use Rattle.deployment.specs.Flows.{flow_of, flows_of, decision_bytes, decisions_bytes}
 use Rattle.deployment.specs.declared.Why.TheVariants.{Length, Room}
-use Rattle.deployment.specs.declared.Written.TheVariants.{Bytes, Turned}
+use Rattle.std.specs.Prelude.{Ok, Err}
 use Rattle.deployment.proofs.Flows.{flows_length, made_of_flow, length_decision, length_decisions, decisions_snoc}
 use Rattle.deployment.proofs.Records.{first_byte, number_there}
 use Rattle.deployment.proofs.Storing.{stored_more, stored_fills}
@@ -93,7 +93,7 @@ module _ (decides : Flow → Decision) (flows place : List ℕ) where
       stored_fills (rw whole at put) (omega (arith, size_needed))
 
   -- How flows are answered.
-  pub uneven : ¬ (length flows % 13 ≡ 0) → left_by (Turned (record { why = Length; at = 0 })) place ≡ flows_decided decides flows place
+  pub uneven : ¬ (length flows % 13 ≡ 0) → left_by (Err (record { why = Length; at = 0 })) place ≡ flows_decided decides flows place
   unfolding flows_decided
   uneven h = rw (ne_eqb (length flows % 13) 0 h)
 
@@ -101,14 +101,14 @@ module _ (decides : Flow → Decision) (flows place : List ℕ) where
     abbrev output : List ℕ
     output = decisions_bytes decisions
 
-    pub no_room : length place < n → left_by (Turned (record { why = Room; at = n })) place ≡ flows_decided decides flows place
+    pub no_room : length place < n → left_by (Err (record { why = Room; at = n })) place ≡ flows_decided decides flows place
     unfolding flows_decided writing
     no_room small =
-        rw (eq-eqb (length flows % 13) 0 whole) (lent.no_room Turned (Bytes (length output)) output place n (size_needed ∙ sym needed) small)
+        rw (eq-eqb (length flows % 13) 0 whole) (lent.no_room Err (Ok (length output)) output place n (size_needed ∙ sym needed) small)
 
     pub written : {now : List ℕ} → n ≤ length place → now ≡ filled place (decisions_bytes decisions)
-        → left_by (Bytes n) now ≡ flows_decided decides flows place
+        → left_by (Ok n) now ≡ flows_decided decides flows place
     unfolding flows_decided writing
     written room is =
         let long : length output ≡ n = size_needed ∙ sym needed in
-        rw (eq-eqb (length flows % 13) 0 whole, long) (rw long at (lent.with_room Turned (Bytes n) output place n long room is))
+        rw (eq-eqb (length flows % 13) 0 whole, long) (rw long at (lent.with_room Err (Ok n) output place n long room is))

@@ -1,6 +1,6 @@
 -- What a customer buys of many flows decided at once, about the definition. Each claim is a statement; proofs/Claims.antt has, for each, a
 -- proof of the same name in small letters with hyphens. Assumes nothing.
-use Rattle.std.specs.Prelude.{ℕ, ◌*◌, ◌/◌, ◌%◌, ◌≤◌, ◌<◌, ◌≡◌, ◌↔◌, List, length, drop}
+use Rattle.std.specs.Prelude.{Result, Ok, Err, ℕ, ◌*◌, ◌/◌, ◌%◌, ◌≤◌, ◌<◌, ◌≡◌, ◌↔◌, List, length, drop}
 use Rattle.policy.specs.declared.Decision.{Decision}
 use Rattle.policy.specs.declared.Flow.{Flow}
 use Rattle.deployment.specs.Checked.{why_number}
@@ -8,8 +8,6 @@ use Rattle.deployment.specs.Bytes.{part}
 use Rattle.deployment.specs.Flows.{flow_width, decision_width, flow_of, decision_of}
 use Rattle.deployment.specs.FieldValues.{Writing}
 use Rattle.deployment.specs.declared.Refusal.{Refusal}
-use Rattle.deployment.specs.declared.Written.{Written}
-use Rattle.deployment.specs.declared.Written.TheVariants.{Bytes, Turned}
 use Rattle.flows.specs.Flows.{flows_decided}
 
 -- how many flows there are, and the k-th of them
@@ -24,8 +22,8 @@ abbrev pub decision_at : ℕ → List ℕ → Decision
 decision_at k place = decision_of (part (decision_width * k) decision_width place)
 
 -- turned away with this number of the table, at this position
-abbrev pub TurnedWith : Written → ℕ → ℕ → Type 0
-TurnedWith answer number at = (refusal : Refusal) × (answer ≡ Turned refusal) × (why_number refusal.why ≡ number) × (refusal.at ≡ at)
+abbrev pub TurnedWith : Result ℕ Refusal → ℕ → ℕ → Type 0
+TurnedWith answer number at = (refusal : Refusal) × (answer ≡ Err refusal) × (why_number refusal.why ≡ number) × (refusal.at ≡ at)
 
 -- Where something decides, 4 is given exactly to flows not of 13 bytes each, at position 0,
 abbrev pub FlowsNotWhole : Type 0
@@ -44,14 +42,14 @@ FlowsWithoutRoom =
 abbrev pub FlowsWritten : Type 0
 FlowsWritten =
     (decides : Flow → Decision) (flows place : List ℕ) (n : ℕ)
-    → ((flows_decided decides flows place).answer ≡ Bytes n)
+    → ((flows_decided decides flows place).answer ≡ Ok n)
     ↔ ((length flows % flow_width ≡ 0) × (decision_width * flow_count flows ≤ length place) × (n ≡ decision_width * flow_count flows))
 
 -- "on success the output fills the first bytes and the rest keep theirs"; "When turned away, every lent place keeps its bytes"
 abbrev pub KeepsRest : List ℕ → Writing → Type 0
 KeepsRest place left =
-    ((n : ℕ) → left.answer ≡ Bytes n → drop n left.place ≡ drop n place)
-    × ((refusal : Refusal) → left.answer ≡ Turned refusal → left.place ≡ place)
+    ((n : ℕ) → left.answer ≡ Ok n → drop n left.place ≡ drop n place)
+    × ((refusal : Refusal) → left.answer ≡ Err refusal → left.place ≡ place)
 
 abbrev pub FlowsKeepRest : Type 0
 FlowsKeepRest = (decides : Flow → Decision) (flows place : List ℕ) → KeepsRest place (flows_decided decides flows place)
@@ -64,4 +62,4 @@ Short decides = (flow : Flow) → (decides flow).place < 65536
 abbrev pub EachDecided : Type 0
 EachDecided =
     (flows place : List ℕ) (n k : ℕ) → k < flow_count flows → (decides : Flow → Decision) → Short decides
-    → (flows_decided decides flows place).answer ≡ Bytes n → decides (flow_at k flows) ≡ decision_at k (flows_decided decides flows place).place
+    → (flows_decided decides flows place).answer ≡ Ok n → decides (flow_at k flows) ≡ decision_at k (flows_decided decides flows place).place

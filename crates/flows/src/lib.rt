@@ -4,7 +4,7 @@
 
 ghost use Rattle.std.specs.Prelude.{◌≡◌, map, ◌*◌, ◌/◌, ◌≤◌, ◌<◌, length};
 ghost use Rattle.policy.specs.Policy.{under, decide, matching};
-ghost use Rattle.deployment.specs.Values.{action_number, numbers_of};
+ghost use Rattle.deployment.specs.Values.{numbers_of};
 ghost use Rattle.deployment.specs.Catalogue.{catalogue_of};
 ghost use Rattle.deployment.specs.FieldValues.{filled, left_by};
 ghost use Rattle.deployment.specs.Flows.{flows_of, decision_bytes, decisions_bytes};
@@ -12,7 +12,7 @@ ghost use Rattle.flows.specs.Flows.{flows_decided};
 ghost use Rattle.flows.specs.Claims.{flow_at};
 
 use decision::decided;
-use deployment::{Refusal, Why, Written};
+use deployment::{Refusal, Why};
 use format::{four_at, store, two_at};
 use policy::{Action, Decision, Flow};
 
@@ -38,26 +38,15 @@ fn flow_at(flows: &[u8], k: usize) -> Flow
     }
 }
 
-// "0 deny, 1 permit"
-pub fn action_byte(action: Action) -> u8
-    ensures { result ≡ action_number action }
-{
-    match action {
-        Action::Deny => 0,
-        Action::Permit => 1,
-    }
-}
-
 // "The answer is the action and the place": one byte and two.
 fn decision_bytes(d: Decision) -> [u8; 3]
     ensures { result ≡ decision_bytes d }
 {
-    let action = d.action;
-    let place = d.place;
+    // Kept: for `to_be_bytes` the place would first have to be cut to two bytes, which is no plainer.
     [
-        action_byte(action),
-        (place / 256 % 256) as u8,
-        (place % 256) as u8,
+        d.action.into(),
+        (d.place / 256 % 256) as u8,
+        (d.place % 256) as u8,
     ]
 }
 
@@ -77,13 +66,10 @@ fn put_decisions(
         (map (λ flow. decide (matching (catalogue_of skip rules.now) flow) (under default (numbers_of policy.now)))
         (flows_of flows.now))) }
 {
-    let count = flows.len() / FLOW_BYTES;
-    let mut k = 0;
-    while k < count {
+    for k in 0..flows.len() / FLOW_BYTES {
         let flow = flow_at(flows, k);
         let bytes = decision_bytes(decided(rules, skip, policy, default, flow));
         store(place, DECISION_BYTES * k, &bytes);
-        k += 1;
     }
 }
 
@@ -96,25 +82,25 @@ pub fn decide_into(
     default: Action,
     flows: &[u8],
     place: &mut [u8],
-) -> Written
+) -> Result<usize, Refusal>
     ensures { left_by result place.new
         ≡ flows_decided
         (λ flow. decide (matching (catalogue_of skip rules.now) flow) (under default (numbers_of policy.now)))
         flows.now place.old }
 {
     if flows.len() % FLOW_BYTES != 0 {
-        return Written::Turned(Refusal {
+        return Err(Refusal {
             why: Why::Length,
             at: 0,
         });
     }
     let needed = DECISION_BYTES * (flows.len() / FLOW_BYTES);
     if place.len() < needed {
-        return Written::Turned(Refusal {
+        return Err(Refusal {
             why: Why::Room,
             at: needed,
         });
     }
     put_decisions(rules, skip, policy, default, flows, place);
-    Written::Bytes(needed)
+    Ok(needed)
 }

@@ -4,7 +4,7 @@ use mathlib.Core.Path.{◌≡◌, sym, ◌∙◌}
 use Rattle.running.specs.Running.{view}
 use Rattle.running.specs.declared.Running.{Running}
 use Rattle.format.proofs.two.Reads as two
-use Rattle.format.proofs.four.Reads as four
+use Rattle.format.proofs.number_of.Reads as number_of
 use Rattle.format.proofs.two_at.Reads as two_at
 use Rattle.format.proofs.four_at.Reads as four-at
 use Rattle.format.proofs.listed.Reads as listed
@@ -16,8 +16,8 @@ use Rattle.format.proofs.store.Reads as store
 pub one_two : (κ : _) (a : _) (r s : ℕ) (e f : _) → two.Post κ a r e → two.Post κ a s f → r ≡ s
 one_two κ a r s e f p q = p ∙ sym q
 
-pub one_four : (κ : _) (a : _) (r s : ℕ) (e f : _) → four.Post κ a r e → four.Post κ a s f → r ≡ s
-one_four κ a r s e f p q = p ∙ sym q
+pub one_number : (κ : _) (a : _) (r s : ℕ) (e f : _) → number_of.Post κ a r e → number_of.Post κ a s f → r ≡ s
+one_number κ a r s e f p q = p ∙ sym q
 
 pub one_two_at : (κ : _) (a : _) (r s : ℕ) (e f : _) → two_at.Post κ a r e → two_at.Post κ a s f → r ≡ s
 one_two_at κ a r s e f p q = p ∙ sym q

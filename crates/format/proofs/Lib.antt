@@ -1,2 +1,3 @@
 pub mod Copying
+pub mod Numbers
 pub mod Answers

@@ -3,7 +3,7 @@
 
 #![tactic(auto)]
 
-ghost use Rattle.std.specs.Prelude.{◌≡◌, [], ◌∷◌, ◌+◌, leb, length, get_or, take};
+ghost use Rattle.std.specs.Prelude.{◌≡◌, [], ◌∷◌, ◌+◌, ◌≤◌, ◌↔◌, IsTrue, length, get_or, take};
 ghost use Rattle.std.proofs.lemmas.List.Edits.{sets};
 ghost use Rattle.policy.specs.Policy.{most_rules};
 ghost use Rattle.running.specs.Running.{view};
@@ -59,35 +59,34 @@ pub fn store(place: &mut [u8], at: usize, value: &[u8])
     if place.len() <= at {
         return;
     }
-    let room = place.len() - at;
-    let mut k = 0;
-    while k < value.len() && k < room {
-        place[at + k] = value[k];
-        k += 1;
-    }
+    let count = value.len().min(place.len() - at);
+    place[at..at + count].copy_from_slice(&value[..count]);
 }
 
-// "All numbers are big-endian."
+// "All numbers are big-endian": the number that the bytes are, of which there are four at most.
+pub fn number_of(bytes: &[u8]) -> u32
+    requires { length bytes.now ≤ 4 }
+    ensures { result ≡ number bytes.now }
+{
+    let mut n = 0;
+    for b in bytes {
+        n = n * 256 + u32::from(*b);
+    }
+    n
+}
+
+// The number of two bytes.
 pub fn two(a: u8, b: u8) -> u16
     ensures { result ≡ number (a ∷ b ∷ []) }
 {
-    (a as u16) * 256 + (b as u16)
-}
-
-pub fn four(a: u8, b: u8, c: u8, d: u8) -> u32
-    ensures { result ≡ number (a ∷ b ∷ c ∷ d ∷ []) }
-{
-    (a as u32) * 16777216 + (b as u32) * 65536 + (c as u32) * 256 + (d as u32)
+    number_of(&[a, b]) as u16
 }
 
 // Whether so many bytes stand from `at` on, of `size` in all.
 fn stand(size: usize, at: usize, width: usize) -> bool
-    ensures { result ≡ leb (at + width) size }
+    ensures { IsTrue result ↔ at + width ≤ size }
 {
-    if size < at {
-        return false;
-    }
-    width <= size - at
+    at <= size && width <= size - at
 }
 
 // The number of two bytes from `at` on, and of four; 0 where they don't all stand there.
@@ -95,7 +94,7 @@ pub fn two_at(bytes: &[u8], at: usize) -> u16
     ensures { result ≡ number_at at 2 bytes.now }
 {
     if stand(bytes.len(), at, 2) {
-        return two(bytes[at], bytes[at + 1]);
+        return number_of(&bytes[at..at + 2]) as u16;
     }
     0
 }
@@ -104,7 +103,7 @@ pub fn four_at(bytes: &[u8], at: usize) -> u32
     ensures { result ≡ number_at at 4 bytes.now }
 {
     if stand(bytes.len(), at, 4) {
-        return four(bytes[at], bytes[at + 1], bytes[at + 2], bytes[at + 3]);
+        return number_of(&bytes[at..at + 4]);
     }
     0
 }
@@ -124,26 +123,19 @@ pub fn number_at(value: &[u8], k: usize) -> u16
         return 0;
     }
     let at = NUMBER_BYTES * k;
-    two(value[at], value[at + 1])
+    number_of(&value[at..at + NUMBER_BYTES]) as u16
 }
 
 // The list of a value as a running list: its first 1,024 numbers.
 pub fn list_of(value: &[u8]) -> Running
     ensures { view result ≡ take most_rules (numbers_of value.now) }
 {
-    let count = listed(value);
-    let top = if count < MOST_RULES {
-        count
-    } else {
-        MOST_RULES
-    };
+    let len = listed(value).min(MOST_RULES);
     let mut rules = [0u16; MOST_RULES];
-    let mut k = 0;
-    while k < top {
+    for k in 0..len {
         rules[k] = number_at(value, k);
-        k += 1;
     }
-    Running { rules, len: top }
+    Running { rules, len }
 }
 
 // The k-th record of a catalogue, counted from 0; `skip` bytes stand before each. Nothing past the last.

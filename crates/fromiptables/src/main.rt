@@ -3,7 +3,7 @@
 #![tactic(auto)]
 
 use iptables_reader::{MOST_FILE, from_iptables};
-use streams::{Input, first, print_answer, print_unreadable, print_whole, read_input};
+use streams::{first, print_answer, print_unreadable, print_whole, read_input};
 
 // The longest listing that is read, and room to see that one is longer.
 const MOST_LISTING: usize = 262144;
@@ -12,8 +12,7 @@ const LISTING_ROOM: usize = MOST_LISTING + 1;
 
 fn main(rt: HostRuntime) {
     let mut listing = [0u8; LISTING_ROOM];
-    let input = read_input(&mut rt.stdin(), &mut listing);
-    let Input::Bytes(n) = input else {
+    let Ok(n) = read_input(&mut rt.stdin(), &mut listing) else {
         print_unreadable(&rt);
         return;
     };

@@ -3,9 +3,8 @@
 use Prim.Native.Nat.{ℕ, ◌+◌, ◌≤◌}
 use native.Mathlib.Omega.{arith}
 use mathlib.Core.Path.{◌≡◌, ◌∙◌, ap}
-use mathlib.Core.Bool.{Bool, true, false}
 use mathlib.Core.List.{List, ◌++◌}
-use mathlib.Core.Option.{Option, some}
+use mathlib.Core.Option.{Option, none, some}
 use lib.ListN.{length, take, length-append}
 use lib.Seq.{take_all}
 use Rattle.policy.specs.Claims.{Accepted}
@@ -21,18 +20,16 @@ use Rattle.first_stage.specs.FirstStage.{FirstStage, front_of}
 use Rattle.plans.proofs.Sending.{sent_more}
 
 -- The rules that are kept: the numbers of a keep list that is there ..
-pub kept_given : (initial target value l : List ℕ) (has : Bool) → has ≡ true → Accepted 1024 initial target (keep_of has value)
-    → length initial ≤ 512 → l ≡ take 1024 (numbers_of value) → l ≡ kept_two initial target (keep_of has value)
+pub kept_given : (initial target value l : List ℕ) → Accepted 1024 initial target (keep_of (some value))
+    → length initial ≤ 512 → l ≡ take 1024 (numbers_of value) → l ≡ kept_two initial target (keep_of (some value))
 unfolding kept_two keep_of
-kept_given initial target value l has there accepted short is =
-    let keepable = (rw there at accepted).keepable in
-    rw there (is ∙ take_all 1024 (numbers_of value) (omega (arith, sublist_length keepable.0)))
+kept_given initial target value l accepted short is =
+    is ∙ take_all 1024 (numbers_of value) (omega (arith, sublist_length accepted.keepable.0))
 
 -- .. and the planner's own choice where it is absent.
-pub kept_chosen : (initial target value l : List ℕ) (has : Bool) → has ≡ false → l ≡ own_choice initial target
-    → l ≡ kept_two initial target (keep_of has value)
+pub kept_chosen : (initial target l : List ℕ) → l ≡ own_choice initial target → l ≡ kept_two initial target (keep_of none)
 unfolding kept_two keep_of
-kept_chosen initial target value l has absent is = rw absent is
+kept_chosen initial target l is = is
 
 module _ (initial target : List ℕ) (keep : Option (List ℕ)) (accepted : Accepted 1024 initial target keep) where
   -- the rules that are kept are a keep list that the reader accepts

@@ -9,15 +9,15 @@ ghost use Rattle.policy.specs.Claims.{Admitted, Accepted};
 ghost use Rattle.policy.specs.Policy.{most_rules, most_listed};
 ghost use Rattle.running.specs.Running.{view};
 ghost use Rattle.deployment.specs.Values.{numbers_of};
-ghost use Rattle.plans.specs.Sending.{field_width};
 ghost use Rattle.plans.specs.Plans.{made_two_of, keep_of, Placed, placed_plan};
-ghost use Rattle.deployment.specs.FieldValues.{left_by};
+ghost use Rattle.deployment.specs.FieldValues.{lent, left_by};
 
+use deployment::Refusal;
 use first_stage::{places_of, stage_one};
 use format::list_of;
 use places::{Places, place_of};
 use plans::field::{FIELD_BYTES, close};
-use plans::{Plan, Planned, send};
+use plans::{Plan, send};
 use policy::{Command, MOST_RULES};
 use running::Running;
 use second_stage::stage_two;
@@ -29,15 +29,13 @@ fn own_choice(initial: Running, target: Running) -> Running
 {
     let of = places_of(initial);
     let len = target.count();
-    let rules = target.rules;
     let mut kept = [0u16; MOST_RULES];
     let mut count = 0;
     let mut last = 0;
-    for i in 0..len {
-        let r = rules[i];
-        let place = place_of(&of, r);
+    for r in &target.rules[..len] {
+        let place = place_of(&of, *r);
         if last < place {
-            kept[count] = r;
+            kept[count] = *r;
             count += 1;
             last = place;
         }
@@ -49,18 +47,22 @@ fn own_choice(initial: Running, target: Running) -> Running
 }
 
 // The plan for two policies and, where it isn't absent, a keep list, in a place for the longest field.
-fn made_two(initial: &[u8], target: &[u8], has_keep: bool, keep: &[u8], field: &mut [u8]) -> Plan
-    requires { Accepted most_rules (numbers_of initial.now) (numbers_of target.now) (keep_of has_keep keep.now)
-        × (length (numbers_of initial.now) ≤ most_listed) × (length (numbers_of target.now) ≤ most_listed) × (length field.old ≡ field_width) }
-    ensures { Placed (made_two_of (numbers_of initial.now) (numbers_of target.now) (keep_of has_keep keep.now))
+fn made_two(
+    initial: &[u8],
+    target: &[u8],
+    keep: Option<&[u8]>,
+    field: &mut [u8; FIELD_BYTES],
+) -> Plan
+    requires { Accepted most_rules (numbers_of initial.now) (numbers_of target.now) (keep_of (lent keep))
+        × (length (numbers_of initial.now) ≤ most_listed) × (length (numbers_of target.now) ≤ most_listed) }
+    ensures { Placed (made_two_of (numbers_of initial.now) (numbers_of target.now) (keep_of (lent keep.entry)))
         result field.old field.new }
 {
     let old = list_of(initial);
     let new = list_of(target);
-    let keeping = if has_keep {
-        list_of(keep)
-    } else {
-        own_choice(old, new)
+    let keeping = match keep {
+        Some(keep) => list_of(keep),
+        None => own_choice(old, new),
     };
     let stage = stage_one(old, new, keeping, field);
     let commands = stage_two(stage, new, field);
@@ -72,21 +74,20 @@ fn made_two(initial: &[u8], target: &[u8], has_keep: bool, keep: &[u8], field: &
     )
 }
 
-// The plan for two policies and a keep list that the reader accepts, in the lent place; the keep list is there if `has_keep` says so.
+// The plan for two policies and a keep list that the reader accepts, in the lent place.
 pub fn plan_two(
     initial: &[u8],
     target: &[u8],
-    has_keep: bool,
-    keep: &[u8],
+    keep: Option<&[u8]>,
     place: &mut [u8],
-) -> Planned
-    requires { Accepted most_rules (numbers_of initial.now) (numbers_of target.now) (keep_of has_keep keep.now)
+) -> Result<Plan, Refusal>
+    requires { Accepted most_rules (numbers_of initial.now) (numbers_of target.now) (keep_of (lent keep))
         × (length (numbers_of initial.now) ≤ most_listed) × (length (numbers_of target.now) ≤ most_listed) }
     ensures { left_by result place.new
-        ≡ placed_plan (made_two_of (numbers_of initial.now) (numbers_of target.now) (keep_of has_keep keep.now)) place.old }
+        ≡ placed_plan (made_two_of (numbers_of initial.now) (numbers_of target.now) (keep_of (lent keep.entry))) place.old }
 {
     let mut field = [0u8; FIELD_BYTES];
-    let plan = made_two(initial, target, has_keep, keep, &mut field);
+    let plan = made_two(initial, target, keep, &mut field);
     let bytes = plan.bytes;
     send(plan, &field[0..bytes], place)
 }

@@ -1,6 +1,6 @@
 -- What a customer buys of a listing that is brought in. Each claim is a statement; proofs/ has, for each, a proof of the same name in small letters
 -- with hyphens. Assumes nothing.
-use Rattle.std.specs.Prelude.{ℕ, ◌/◌, ◌≤◌, ◌≡◌, true, ◌↔◌, ◌⊎◌, length}
+use Rattle.std.specs.Prelude.{Result, ℕ, ◌/◌, ◌≤◌, ◌≡◌, true, ◌↔◌, ◌⊎◌, length}
 use mathlib.Core.List.{List, [], ◌∷◌, ◌++◌, map, Memᴰ}
 use Rattle.policy.specs.Policy.{decided, matching}
 use Rattle.policy.specs.Rule.{Range, Rule, lies}
@@ -14,7 +14,7 @@ use Rattle.deployment.specs.FieldValues.{written_numbers, TooSmall}
 use Rattle.deployment.specs.Properties.{AreBytes, Valid}
 use Rattle.deployment.specs.declared.Why.{Why}
 use Rattle.deployment.specs.declared.Why.TheVariants.{NotRead, LowAbove}
-use Rattle.deployment.specs.declared.Written.{Written}
+use Rattle.deployment.specs.declared.Refusal.{Refusal}
 use Rattle.lines.specs.Text.{text}
 use Rattle.iptables.specs.Words.{line_feed, parted, hosts, masked, meant}
 use Rattle.iptables.specs.Options.{Given, rule_given}
@@ -117,7 +117,7 @@ FileForListing = (listing place : List ℕ) (number at : ℕ) → ¬ (number ≡
     → (written_numbers (file_of_listing listing place).answer ≡ number ∷ at ∷ []) ↔ ListingTurned listing number at
 
 -- All of this of the entry, by its answer and what it leaves in the place.
-pub record ListingRefuses (listing : List ℕ) (answer : Written) (before after : List ℕ) : Type 0 where
+pub record ListingRefuses (listing : List ℕ) (answer : Result ℕ Refusal) (before after : List ℕ) : Type 0 where
   pub keeps : (number at : ℕ) → written_numbers answer ≡ number ∷ at ∷ [] → after ≡ before
   pub room : (at : ℕ) → (written_numbers answer ≡ 13 ∷ at ∷ []) ↔ TooSmall file_of (listing_read listing) before at
   pub row : (number at : ℕ) → ¬ (number ≡ 13) → (written_numbers answer ≡ number ∷ at ∷ []) ↔ ListingTurned listing number at

@@ -3,11 +3,9 @@
 
 #![tactic(auto)]
 
-use cases::{MOST_READ, argument_count, filled, print_answer, print_bytes, read_argument};
-use deployment::Written;
+use cases::{each_file, filled, print_answer, print_bytes};
+use deployment::Refusal;
 use iptables_reader::from_iptables;
-use std::env::Env;
-use std::rt::Files;
 
 // What a lent place holds before a call.
 const LENT: u8 = 165;
@@ -16,7 +14,7 @@ const LENT: u8 = 165;
 const ROOM_BYTES: usize = 65536;
 
 // The call with the first bytes of a room as its place, or with all of it where it has fewer.
-fn called_with(listing: &[u8], room: &mut [u8], size: usize) -> Written {
+fn called_with(listing: &[u8], room: &mut [u8], size: usize) -> Result<usize, Refusal> {
     if room.len() < size {
         return from_iptables(listing, room);
     }
@@ -24,7 +22,7 @@ fn called_with(listing: &[u8], room: &mut [u8], size: usize) -> Written {
 }
 
 // A call that is lent the first bytes of a room; its answer.
-fn print_lent<R: Print>(rt: &R, listing: &[u8], size: usize) -> Written {
+fn print_lent<R: Print>(rt: &R, listing: &[u8], size: usize) -> Result<usize, Refusal> {
     let mut room = filled(LENT);
     let answer = called_with(listing, &mut room, size);
     print_bytes(rt, b"listing");
@@ -33,25 +31,13 @@ fn print_lent<R: Print>(rt: &R, listing: &[u8], size: usize) -> Written {
 }
 
 fn print_calls<R: Print>(rt: &R, listing: &[u8]) {
-    let answer = print_lent(rt, listing, ROOM_BYTES);
-    if let Written::Bytes(n) = answer {
+    if let Ok(n) = print_lent(rt, listing, ROOM_BYTES) {
         if 0 < n {
-            print_lent(rt, listing, n - 1);
+            let _ = print_lent(rt, listing, n - 1);
         }
     }
 }
 
-fn print_argument<R: Env + Files + Print>(rt: &R, i: usize) {
-    let mut listing = [0u8; MOST_READ];
-    let got = read_argument(rt, i, &mut listing);
-    print_calls(rt, &listing[..got]);
-}
-
 fn main(rt: HostRuntime) {
-    let count = argument_count(&rt);
-    let mut i = 1;
-    while i < count {
-        print_argument(&rt, i);
-        i += 1;
-    }
+    each_file(&rt, |listing| print_calls(&rt, listing));
 }

@@ -5,13 +5,13 @@ use native.Mathlib.Omega.{arith}
 use mathlib.Core.Path.{◌≡◌, refl, sym, ◌∙◌, ap}
 use mathlib.Core.Bool.{Bool, true, false, cond}
 use mathlib.Core.Logic.{◌≢◌}
-use mathlib.Core.List.{List, [], ◌∷◌}
+use mathlib.Core.List.{List, ◌∷◌}
 use lib.ListN.{length, drop}
 use Rattle.policy.specs.Lists.{same}
 use Rattle.policy.specs.declared.Action.{Action}
 use Rattle.policy.proofs.Lists.{same_eq}
-use Rattle.policy.proofs.Tests.{by_test}
 use Rattle.deployment.specs.Checked.{Checked, good, bad, ◌>>=◌, ◌>>◌, require}
+use Rattle.deployment.specs.declared.Why.{Why}
 use Rattle.deployment.specs.declared.Why.TheVariants.{NotRead}
 use Rattle.lines.specs.Text.{text}
 use Rattle.iptables.specs.Words.{blank, cut_at, is_name}
@@ -22,37 +22,27 @@ use Rattle.iptables.specs.Properties.{IsTarget}
 use Rattle.iptables.proofs.Wording.{Reads}
 use Rattle.iptables.proofs.Options.{target_is}
 use Rattle.iptables_words.proofs.Pieces.{one_behind, several_behind}
-use Rattle.iptables_rule.specs.Found.{words_from, target_told, no_rule}
-use Rattle.iptables_rule.specs.declared.Target.{Target}
-use Rattle.iptables_rule.specs.declared.Target.TheVariants.{Is, Not}
+use Rattle.iptables_rule.specs.Found.{words_from, target_told}
+use Rattle.std.specs.Prelude.{Option as CodeOption, Some, None, Result, Ok, Err}
 use Rattle.iptables_rule.proofs.Turns.{Ends, word_from, no_words, next_word}
-use Rattle.iptables_lines.specs.Told.{line_is, line_told, rule_of, rule_told, read_told, plain_told}
+use Rattle.iptables_lines.specs.Told.{line_is, line_told}
 use Rattle.iptables_lines.specs.declared.Line.{Line}
-use Rattle.iptables_lines.specs.declared.Line.TheVariants.{Default, Turned, Passed}
-
--- A line that has no rule is told as such.
-pub told_plain : (read : Checked listing.Line) → rule_told read ≡ no_rule → plain_told (line_told read) ≡ read_told read
-unfolding plain_told read_told
-told_plain read none = rw none refl
-
-pub other_plain : (name : List ℕ) → plain_told (line_told (other_chain name)) ≡ read_told (other_chain name)
-unfolding other_chain rule_told rule_of
-other_plain name = told_plain (other_chain name) (by_test (is_name name) (λ t. rw t refl) (λ f. rw f refl))
+use Rattle.iptables_lines.specs.declared.Line.TheVariants.{Default, Passed}
 
 -- A chain's name, or not.
 module _ (name : List ℕ) where
-  pub is_passed : is_name name ≡ true → Passed ≡ line_told (other_chain name)
+  pub is_passed : is_name name ≡ true → Ok Passed ≡ line_told (other_chain name)
   unfolding other_chain line_told line_is
   is_passed t = rw t refl
 
-  pub is_turned : is_name name ≡ false → Turned NotRead ≡ line_told (other_chain name)
+  pub is_turned : is_name name ≡ false → Err NotRead ≡ line_told (other_chain name)
   unfolding other_chain line_told
   is_turned f = rw f refl
 
 -- The policy and the counters of a `:FORWARD` line.
-unfoldable pub default_told : Target → Bool → Line
-default_told (Is action) counted = cond counted (Default action) (Turned NotRead)
-default_told Not counted = Turned NotRead
+unfoldable pub default_told : CodeOption Action → Bool → Result Line Why
+default_told (Some action) counted = cond counted (Ok (Default action)) (Err NotRead)
+default_told None counted = Err NotRead
 
 -- what is read of the two, once the policy is
 abbrev counted : Checked Action → Bool → Checked listing.Line
@@ -68,37 +58,24 @@ counted_told policy (good action) true is = refl
 counted_told policy (good action) false is = refl
 counted_told policy (bad why) counters not = rw not refl
 
-counted_plain : (read : Checked Action) (counters : Bool) → rule_told (counted read counters) ≡ no_rule
-unfolding rule_told rule_of
-counted_plain (good action) true = refl
-counted_plain (good action) false = refl
-counted_plain (bad why) counters = refl
-
-pub default_plain : (words : List (List ℕ)) → rule_told (forward_read words) ≡ no_rule
-unfolding forward_read rule_told
-default_plain [] = refl
-default_plain (policy ∷ []) = refl
-default_plain (policy ∷ counters ∷ []) = counted_plain (target_of policy) (are_counters counters)
-default_plain (policy ∷ counters ∷ other ∷ words) = refl
-
 -- The words of a `:FORWARD` line.
 module _ (line : List ℕ) (at : ℕ) where
-  pub no_policy : length line ≤ at → Turned NotRead ≡ line_told (forward_read (words_from at line))
+  pub no_policy : length line ≤ at → Err NotRead ≡ line_told (forward_read (words_from at line))
   unfolding forward_read line_told
   no_policy ends = rw (no_words line at ends) refl
 
   module _ (inside : at < length line) (middle : ℕ) (ends : Ends line (at + 1) middle) where
-    pub one_word : middle ≡ length line → Turned NotRead ≡ line_told (forward_read (words_from at line))
+    pub one_word : middle ≡ length line → Err NotRead ≡ line_told (forward_read (words_from at line))
     unfolding forward_read line_told
     one_word last = rw (next_word line at middle inside ends, no_words line middle (omega arith)) refl
 
     module _ (more : middle < length line) (counters : List ℕ) (behind : counters ≡ drop (middle + 1) line) (to : ℕ)
         (next : to ≡ 0 + cut_at blank (drop 0 counters)) where
-      pub more_words : to ≢ length counters → Turned NotRead ≡ line_told (forward_read (words_from at line))
+      pub more_words : to ≢ length counters → Err NotRead ≡ line_told (forward_read (words_from at line))
       unfolding forward_read line_told words_from
       more_words on = rw (next_word line at middle inside ends, (several_behind blank line middle more counters behind to next on).is) refl
 
-      pub two_words : to ≡ length counters → (target : Target) → target ≡ target_told (target_of (word_from line (at + 1) middle))
+      pub two_words : to ≡ length counters → (target : CodeOption Action) → target ≡ target_told (target_of (word_from line (at + 1) middle))
           → default_told target (are_counters counters) ≡ line_told (forward_read (words_from at line))
       unfolding forward_read words_from
       two_words last target told =
@@ -108,8 +85,8 @@ module _ (line : List ℕ) (at : ℕ) where
 
 -- The words of an `-A` line.
 module _ (line : List ℕ) (at : ℕ) where
-  pub no_chain : length line ≤ at → plain_told (Turned NotRead) ≡ read_told (append_read (words_from at line))
-  unfolding append_read plain_told read_told line_told rule_told
+  pub no_chain : length line ≤ at → Err NotRead ≡ line_told (append_read (words_from at line))
+  unfolding append_read line_told
   no_chain ends = rw (no_words line at ends) refl
 
   module _ (inside : at < length line) (end : ℕ) (ends : Ends line (at + 1) end) where
@@ -121,6 +98,6 @@ module _ (line : List ℕ) (at : ℕ) where
         ap (λ (c : List ℕ). append_read (c ∷ words_from end line)) (sym (same_eq chain (text "FORWARD") t))
         ∙ ap append_read (sym (next_word line at end inside ends))
 
-    pub is_another : same chain (text "FORWARD") ≡ false → plain_told (line_told (other_chain chain)) ≡ read_told (append_read (words_from at line))
+    pub is_another : same chain (text "FORWARD") ≡ false → line_told (other_chain chain) ≡ line_told (append_read (words_from at line))
     unfolding append_read
-    is_another f = rw (next_word line at end inside ends, f) (other_plain chain)
+    is_another f = rw (next_word line at end inside ends, f) refl

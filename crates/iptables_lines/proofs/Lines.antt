@@ -9,39 +9,47 @@ use lib.ListN.{length, take, drop}
 use Rattle.policy.specs.Lists.{same}
 use Rattle.policy.specs.Rule.{Rule}
 use Rattle.deployment.specs.Checked.{Checked, good, bad, ◌>>=◌}
+use Rattle.deployment.specs.Values.{rule_bytes}
 use Rattle.deployment.specs.declared.Why.TheVariants.{NotRead}
-use Rattle.catalogue.specs.declared.Checking.{Checking}
-use Rattle.catalogue.specs.declared.Checking.TheVariants.{Good, Bad}
-use Rattle.catalogue.specs.Answers.{checking}
+use Rattle.std.specs.Prelude.{Ok, Err}
+use Rattle.deployment.specs.declared.Why.{Why}
 use Rattle.lines.specs.Text.{text}
 use Rattle.iptables.specs.Words.{blank, colon, parted, cut_at, starts_with}
 use Rattle.iptables.specs.Options.{rule_read}
 use Rattle.iptables.specs.Listing.{forward_read, other_chain, append_read, words_read, is_filter, is_empty, line_read}
 use Rattle.iptables.specs.Listing as listing
 use Rattle.iptables_words.proofs.Pieces.{first_piece}
-use Rattle.iptables_rule.specs.Found.{words_from, rule_or}
+use Rattle.iptables_rule.specs.Found.{words_from}
 use Rattle.iptables_rule.specs.Found as found
-use Rattle.iptables_rule.specs.declared.RuleRead.{RuleRead}
-use Rattle.iptables_lines.specs.Told.{line_is, line_told, rule_of, rule_told, read_told, plain_told}
-use Rattle.iptables_lines.specs.declared.LineRead.{LineRead}
+use Rattle.iptables_lines.specs.Told.{line_is, line_told}
 use Rattle.iptables_lines.specs.declared.Line.TheVariants as line
-use Rattle.iptables_lines.proofs.Behind.{told_plain, other_plain, default_plain}
 
 -- The rule of a rule line, or why it has none.
-unfoldable pub rule_line : Checking → List ℕ → LineRead
-rule_line Good bytes = record { line = line.Rule; bytes = bytes }
-rule_line (Bad why) bytes = plain_told (line.Turned why)
+abbrev as_line : Checked Rule → Checked listing.Line
+as_line read = do
+  r ← read
+  good (listing.rule r)
 
-rule_told_lem : (read : Checked Rule)
-    → let told = found.rule_read_told read in rule_line told.checking told.bytes ≡ read_told (◌>>=◌ read (λ r. good (listing.rule r)))
-unfolding rule_line found.rule_read_told checking rule_or plain_told read_told line_told line_is rule_told rule_of
-rule_told_lem (good r) = refl
-rule_told_lem (bad why) = refl
+rule_is : (read : Checked Rule) (bytes : List ℕ) → Ok bytes ≡ found.rule_read_told read → Ok (line.Rule bytes) ≡ line_told (as_line read)
+unfolding found.rule_read_told line_told line_is
+rule_is (good r) bytes told = let same : bytes ≡ rule_bytes r = cc in rw same refl
+rule_is (bad why) bytes told = absurd (cc)
 
-pub rule_line_told : (words : List (List ℕ)) (read : RuleRead) → read ≡ found.rule_read_told (rule_read words)
-    → (checked : Checking) → read.checking ≡ checked → rule_line checked read.bytes ≡ read_told (append_read (text "FORWARD" ∷ words))
-unfolding append_read same text
-rule_line_told words read told checked is = rw (← is, told) (rule_told_lem (rule_read words))
+rule_not : (read : Checked Rule) (why : Why) → Err why ≡ found.rule_read_told read → Err why ≡ line_told (as_line read)
+unfolding found.rule_read_told line_told
+rule_not (good r) why told = absurd (cc)
+rule_not (bad other) why told = let same : why ≡ other = cc in rw same refl
+
+module _ (words : List (List ℕ)) where
+  pub rule_line : (bytes : List ℕ) → Ok bytes ≡ found.rule_read_told (rule_read words)
+      → Ok (line.Rule bytes) ≡ line_told (append_read (text "FORWARD" ∷ words))
+  unfolding append_read same text
+  rule_line bytes told = rule_is (rule_read words) bytes told
+
+  pub no_rule_line : (why : Why) → Err why ≡ found.rule_read_told (rule_read words)
+      → Err why ≡ line_told (append_read (text "FORWARD" ∷ words))
+  unfolding append_read same text
+  no_rule_line why told = rule_not (rule_read words) why told
 
 -- A line by its first word.
 module _ (s : List ℕ) (end : ℕ) (cut : end ≡ 0 + cut_at blank (drop 0 s)) where
@@ -53,22 +61,22 @@ module _ (s : List ℕ) (end : ℕ) (cut : end ≡ 0 + cut_at blank (drop 0 s)) 
   by_words = first_piece blank s end cut
 
   pub default_line : same first (text ":FORWARD") ≡ true
-      → plain_told (line_told (forward_read (words_from end s))) ≡ read_told (words_read (parted blank s))
+      → line_told (forward_read (words_from end s)) ≡ line_told (words_read (parted blank s))
   unfolding words_read
-  default_line t = rw (by_words, t) (told_plain (forward_read (words_from end s)) (default_plain (words_from end s)))
+  default_line t = rw (by_words, t) refl
 
   module _ (no_default_lem : same first (text ":FORWARD") ≡ false) where
-    pub chain_line : starts_with colon first ≡ true → plain_told (line_told (other_chain (drop 1 first))) ≡ read_told (words_read (parted blank s))
+    pub chain_line : starts_with colon first ≡ true → line_told (other_chain (drop 1 first)) ≡ line_told (words_read (parted blank s))
     unfolding words_read
-    chain_line t = rw (by_words, no_default_lem, t) (other_plain (drop 1 first))
+    chain_line t = rw (by_words, no_default_lem, t) refl
 
     module _ (no-chain : starts_with colon first ≡ false) where
       pub append_line : same first (text "-A") ≡ true → append_read (words_from end s) ≡ words_read (parted blank s)
       unfolding words_read
       append_line t = rw (by_words, no_default_lem, no-chain, t) refl
 
-      pub other_line : same first (text "-A") ≡ false → plain_told (line.Turned NotRead) ≡ read_told (words_read (parted blank s))
-      unfolding words_read plain_told read_told line_told rule_told
+      pub other_line : same first (text "-A") ≡ false → Err NotRead ≡ line_told (words_read (parted blank s))
+      unfolding words_read line_told
       other_line f = rw (by_words, no_default_lem, no-chain, f) refl
 
 -- A line of the part.
@@ -83,27 +91,27 @@ empty_not [] some = absurd (some refl)
 empty_not (b ∷ s) some = refl
 
 module _ (s : List ℕ) where
-  pub filter_opens : starts_with 42 s ≡ true → is_filter s ≡ true → plain_told line.Opens ≡ read_told (line_read s)
-  unfolding line_read plain_told read_told line_told line_is rule_told rule_of
+  pub filter_opens : starts_with 42 s ≡ true → is_filter s ≡ true → Ok line.Opens ≡ line_told (line_read s)
+  unfolding line_read line_told line_is
   filter_opens star filter = rw (star, filter) refl
 
-  pub star_closes : starts_with 42 s ≡ true → is_filter s ≡ false → plain_told line.Closes ≡ read_told (line_read s)
-  unfolding line_read plain_told read_told line_told line_is rule_told rule_of
+  pub star_closes : starts_with 42 s ≡ true → is_filter s ≡ false → Ok line.Closes ≡ line_told (line_read s)
+  unfolding line_read line_told line_is
   star_closes star other = rw (star, other) refl
 
   module _ (no-star : starts_with 42 s ≡ false) where
-    pub commit_closes : same s (text "COMMIT") ≡ true → plain_told line.Closes ≡ read_told (line_read s)
-    unfolding line_read plain_told read_told line_told line_is rule_told rule_of
+    pub commit_closes : same s (text "COMMIT") ≡ true → Ok line.Closes ≡ line_told (line_read s)
+    unfolding line_read line_told line_is
     commit_closes t = rw (no-star, t) refl
 
     module _ (no-commit : same s (text "COMMIT") ≡ false) where
-      pub empty_passed : length s ≡ 0 → plain_told line.Passed ≡ read_told (line_read s)
-      unfolding line_read plain_told read_told line_told line_is rule_told rule_of
+      pub empty_passed : length s ≡ 0 → Ok line.Passed ≡ line_told (line_read s)
+      unfolding line_read line_told line_is
       empty_passed none = rw (no-star, no-commit, empty_is s none) refl
 
       module _ (some : length s ≢ 0) where
-        pub comment_passed : starts_with 35 s ≡ true → plain_told line.Passed ≡ read_told (line_read s)
-        unfolding line_read plain_told read_told line_told line_is rule_told rule_of
+        pub comment_passed : starts_with 35 s ≡ true → Ok line.Passed ≡ line_told (line_read s)
+        unfolding line_read line_told line_is
         comment_passed t = rw (no-star, no-commit, empty_not s some, t) refl
 
         pub words_line : starts_with 35 s ≡ false → words_read (parted blank s) ≡ line_read s

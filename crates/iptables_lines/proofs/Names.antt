@@ -1,24 +1,23 @@
 -- First bytes, chains' names, numbers and `[n:n]`, as the code tests them: from the front, byte by byte. Assumes nothing.
 use Prim.Native.Nat.{ℕ, suc, ◌+◌, ◌-◌, ◌≤◌, ◌<◌}
-use native.Mathlib.Numerals.{add-one}
 use native.Mathlib.Omega.{arith}
 use mathlib.Core.Path.{◌≡◌, refl, sym, ◌∙◌, ap}
-use mathlib.Core.Bool.{Bool, true, false, ◌&&◌}
+use mathlib.Core.Bool.{Bool, true, false, not, ◌&&◌}
 use mathlib.Core.Logic.{◌≢◌}
 use mathlib.Core.List.{List, [], ◌∷◌}
-use borrow.Author.Tests.{lt-ltb, le-ltb, le-leb, lt-leb}
+use borrow.Author.Tests.{le-leb, lt-leb}
 use lib.Dec.{eqb, ltb}
 use lib.ListN.{length, take, drop, get_or, drop_of_length-le}
 use lib.Seq.{drop-cons}
 use Rattle.policy.specs.Lists.{all, same}
-use Rattle.policy.proofs.Tests.{by_test, never}
+use Rattle.policy.proofs.Tests.{never}
 use Rattle.deployment.specs.Bytes.{part}
 use Rattle.deployment.proofs.Values.{by_option}
 use Rattle.lines.specs.Text.{text}
 use Rattle.numerals.specs.Numerals.{number_of}
 use Rattle.numerals.specs.Found.{whole_held}
-use Rattle.numerals.specs.declared.Whole.{Whole}
-use Rattle.numerals.specs.declared.Whole.TheVariants.{Is, Not}
+use Rattle.std.specs.Prelude.{is_some}
+use Rattle.std.specs.List.{list_all}
 use Rattle.iptables.specs.Words.{colon, parted, cut_at, starts_with, in_name, is_name}
 use Rattle.iptables.specs.Listing.{is_number, two_numbers, are_counters}
 use Rattle.iptables_words.proofs.Pieces.{none_behind, first_piece, one_behind, several_behind}
@@ -39,50 +38,29 @@ unfolding starts_with
 some_byte first [] e = never e refl
 some_byte first (b ∷ s) e = omega arith
 
--- A byte of a name.
-pub in_name_lem : (b : ℕ) → 32 < b → eqb b 34 ≡ false → in_name b ≡ true
-unfolding in_name
-in_name_lem b above plain = rw (lt-ltb 32 b above, plain) refl
-
-pub no_control : (b : ℕ) → b ≤ 32 → in_name b ≡ false
-unfolding in_name
-no_control b below = rw (le-ltb 32 b below) refl
-
-pub no_quote : (b : ℕ) → eqb b 34 ≡ true → in_name b ≡ false
-unfolding in_name
-no_quote b quote = by_test (ltb 32 b) (λ t. rw (t, quote) refl) (λ f. rw f refl)
-
--- A name has a byte, and is all bytes of names, from each such byte to the next one.
+-- A name has a byte, and all its bytes are such of names.
 pub no_name : (name : List ℕ) → length name ≡ 0 → is_name name ≡ false
 unfolding is_name
 no_name [] none = refl
 no_name (b ∷ name) none = absurd (omega (arith, none))
 
-pub name_begins : (name : List ℕ) → length name ≢ 0 → is_name name ≡ all in_name (drop 0 name)
+-- the code's test of bytes
+abbrev pub plain : List ℕ → Bool
+plain name = list_all (λ b. ltb 32 b && not (eqb b 34)) name
+
+all_plain : (name : List ℕ) → plain name ≡ all in_name name
+unfolding all in_name
+all_plain [] = refl
+all_plain (b ∷ name) = rw (all_plain name) refl
+
+pub name_plain : (name : List ℕ) → length name ≢ 0 → plain name ≡ is_name name
 unfolding is_name
-name_begins [] some = absurd (some refl)
-name_begins (b ∷ name) some = refl
+name_plain [] some = absurd (some refl)
+name_plain (b ∷ name) some = all_plain (b ∷ name)
 
-module _ (name : List ℕ) (k : ℕ) where
-  pub name_goes_on : k < length name → in_name (get_or name k 0) ≡ true → all in_name (drop k name) ≡ all in_name (drop (k + 1) name)
-  unfolding all
-  name_goes_on inside is = rw (drop-cons name k 0 inside, is, add-one k) refl
-
-  pub name_breaks : k < length name → in_name (get_or name k 0) ≡ false → all in_name (drop k name) ≡ false
-  unfolding all
-  name_breaks inside not = rw (drop-cons name k 0 inside, not) refl
-
-  pub name_ends : length name ≤ k → all in_name (drop k name) ≡ true
-  unfolding all
-  name_ends ends = rw (drop_of_length-le name {i = k} ends) refl
-
--- A number of any size: whether one is held, whatever is held of it.
-unfoldable pub is_held : Whole → Bool
-is_held (Is n) = true
-is_held Not = false
-
-pub held_number : (word : List ℕ) → is_held (whole_held (number_of word)) ≡ is_number word
-unfolding is_held whole_held is_number
+-- A number of any size: one is held, whatever is held of it.
+pub held_number : (word : List ℕ) → is_some (whole_held (number_of word)) ≡ is_number word
+unfolding whole_held is_number
 held_number word = by_option (number_of word) (λ none. rw (none, is_number) refl) (λ n some. rw (some, is_number) refl)
 
 -- Two numbers: the word is cut at its first colon, and what is behind has no other.

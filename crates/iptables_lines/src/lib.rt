@@ -2,20 +2,19 @@
 
 #![tactic(auto)]
 
-ghost use Rattle.std.specs.Prelude.{◌≡◌, ◌∷◌};
+ghost use Rattle.std.specs.Prelude.{◌≡◌, ◌&&◌, ◌∷◌, not, eqb, ltb};
+ghost use Rattle.std.specs.List.{list_all};
 ghost use Rattle.lines.specs.Text.{text};
 ghost use Rattle.iptables.specs.Words.{blank, colon, parted, starts_with, is_name};
 ghost use Rattle.iptables.specs.Listing.{is_number, two_numbers, are_counters, forward_read, other_chain, append_read, words_read, is_filter, line_read};
 ghost use Rattle.iptables_rule.specs.Found.{words_from};
-ghost use Rattle.iptables_lines.specs.Told.{line_told, read_told, plain_told};
+ghost use Rattle.iptables_lines.specs.Told.{line_told};
 
-use catalogue::Checking;
-use catalogue::rule::same_bytes;
 use deployment::Why;
 use format::RULE_BYTES;
-use iptables_rule::{Target, no_record, rule_of, target_of};
+use iptables_rule::{rule_of, target_of};
 use iptables_words::cut;
-use numerals::{Whole, number_of};
+use numerals::number_of;
 use policy::Action;
 
 const BLANK: u8 = b' ';
@@ -32,32 +31,14 @@ const CLOSING: u8 = b']';
 
 const QUOTE: u8 = b'"';
 
-// What a line is, or why it is turned away.
+// What a line is; a rule by its record.
 #[derive(Clone, Copy)]
 pub enum Line {
     Opens,
     Closes,
     Default(Action),
-    Rule,
+    Rule([u8; RULE_BYTES]),
     Passed,
-    Turned(Why),
-}
-
-// A line, and the record of its rule; of another line, that of no rule.
-#[derive(Clone, Copy)]
-pub struct LineRead {
-    pub line: Line,
-    pub bytes: [u8; RULE_BYTES],
-}
-
-// A line that has no rule.
-fn plain(line: Line) -> LineRead
-    ensures { result ≡ plain_told line }
-{
-    LineRead {
-        line,
-        bytes: no_record(),
-    }
 }
 
 // Whether bytes start with this one.
@@ -67,32 +48,25 @@ fn starts_with(bytes: &[u8], first: u8) -> bool
     bytes.len() != 0 && bytes[0] == first
 }
 
+// Whether no byte is a blank, a control character or a quotation mark.
+fn are_plain(bytes: &[u8]) -> bool
+    ensures { result ≡ list_all (λ b. ltb blank b && not (eqb b 34)) bytes.now }
+{
+    bytes.iter().all(|byte| BLANK < *byte && *byte != QUOTE)
+}
+
 // A chain's name: at least one byte, none of them a blank, a control character or a quotation mark.
 fn is_name(name: &[u8]) -> bool
     ensures { result ≡ is_name name.now }
 {
-    if name.len() == 0 {
-        return false;
-    }
-    let mut k = 0;
-    while k < name.len() {
-        if name[k] <= BLANK || name[k] == QUOTE {
-            return false;
-        }
-        k += 1;
-    }
-    true
+    name.len() != 0 && are_plain(name)
 }
 
 // A number of any size.
 fn is_number(word: &[u8]) -> bool
     ensures { result ≡ is_number word.now }
 {
-    let number = number_of(word);
-    match number {
-        Whole::Is(_) => true,
-        Whole::Not => false,
-    }
+    number_of(word).is_some()
 }
 
 // Two numbers, with a colon between them.
@@ -122,111 +96,102 @@ fn are_counters(word: &[u8]) -> bool
 }
 
 // "`:FORWARD ACCEPT|DROP [n:n]`": the words behind the first, which ends at a position.
-fn default_read(line: &[u8], at: usize) -> Line
+fn default_read(line: &[u8], at: usize) -> Result<Line, Why>
     ensures { result ≡ line_told (forward_read (words_from at line.now)) }
 {
     if line.len() <= at {
-        return Line::Turned(Why::NotRead);
+        return Err(Why::NotRead);
     }
     let middle = cut(line, at + 1, BLANK);
     if middle == line.len() {
-        return Line::Turned(Why::NotRead);
+        return Err(Why::NotRead);
     }
     let counters = &line[middle + 1..];
     if cut(counters, 0, BLANK) != counters.len() {
-        return Line::Turned(Why::NotRead);
+        return Err(Why::NotRead);
     }
-    let target = target_of(&line[at + 1..middle]);
-    let Target::Is(action) = target else {
-        return Line::Turned(Why::NotRead);
+    let Some(action) = target_of(&line[at + 1..middle]) else {
+        return Err(Why::NotRead);
     };
     if !are_counters(counters) {
-        return Line::Turned(Why::NotRead);
+        return Err(Why::NotRead);
     }
-    Line::Default(action)
+    Ok(Line::Default(action))
 }
 
 // "passed over are lines of other chains"
-fn other_chain(name: &[u8]) -> Line
+fn other_chain(name: &[u8]) -> Result<Line, Why>
     ensures { result ≡ line_told (other_chain name.now) }
 {
     if is_name(name) {
-        return Line::Passed;
+        return Ok(Line::Passed);
     }
-    Line::Turned(Why::NotRead)
+    Err(Why::NotRead)
 }
 
 // The rule of a rule line, behind the words `-A FORWARD`, which end at a position.
-fn rule_read(line: &[u8], at: usize) -> LineRead
-    ensures { result ≡ read_told (append_read (text "FORWARD" ∷ words_from at line.now)) }
+fn rule_read(line: &[u8], at: usize) -> Result<Line, Why>
+    ensures { result ≡ line_told (append_read (text "FORWARD" ∷ words_from at line.now)) }
 {
-    let read = rule_of(line, at);
-    let checking = read.checking;
-    let bytes = read.bytes;
-    match checking {
-        Checking::Bad(why) => plain(Line::Turned(why)),
-        Checking::Good => LineRead {
-            line: Line::Rule,
-            bytes,
-        },
-    }
+    let bytes = rule_of(line, at)?;
+    Ok(Line::Rule(bytes))
 }
 
 // "`-A FORWARD ..`", or a rule of another chain: the words behind the first, which ends at a position.
-fn append_read(line: &[u8], at: usize) -> LineRead
-    ensures { result ≡ read_told (append_read (words_from at line.now)) }
+fn append_read(line: &[u8], at: usize) -> Result<Line, Why>
+    ensures { result ≡ line_told (append_read (words_from at line.now)) }
 {
     if line.len() <= at {
-        return plain(Line::Turned(Why::NotRead));
+        return Err(Why::NotRead);
     }
     let end = cut(line, at + 1, BLANK);
     let chain = &line[at + 1..end];
-    if same_bytes(chain, b"FORWARD") {
+    if chain == b"FORWARD".as_slice() {
         return rule_read(line, end);
     }
-    plain(other_chain(chain))
+    other_chain(chain)
 }
 
 // A line by its words: "any other line there gets 57".
-fn words_read(line: &[u8]) -> LineRead
-    ensures { result ≡ read_told (words_read (parted blank line.now)) }
+fn words_read(line: &[u8]) -> Result<Line, Why>
+    ensures { result ≡ line_told (words_read (parted blank line.now)) }
 {
     let end = cut(line, 0, BLANK);
     let first = &line[..end];
-    if same_bytes(first, b":FORWARD") {
-        return plain(default_read(line, end));
+    if first == b":FORWARD".as_slice() {
+        return default_read(line, end);
     }
     if starts_with(first, COLON) {
-        return plain(other_chain(&first[1..]));
+        return other_chain(&first[1..]);
     }
-    if same_bytes(first, b"-A") {
+    if first == b"-A".as_slice() {
         return append_read(line, end);
     }
-    plain(Line::Turned(Why::NotRead))
+    Err(Why::NotRead)
 }
 
 // "a line `*filter`"
 pub fn is_filter(line: &[u8]) -> bool
     ensures { result ≡ is_filter line.now }
 {
-    same_bytes(line, b"*filter")
+    line == b"*filter".as_slice()
 }
 
 // A line of the `*filter` part.
-pub fn line_read(line: &[u8]) -> LineRead
-    ensures { result ≡ read_told (line_read line.now) }
+pub fn line_read(line: &[u8]) -> Result<Line, Why>
+    ensures { result ≡ line_told (line_read line.now) }
 {
     if starts_with(line, STAR) {
         if is_filter(line) {
-            return plain(Line::Opens);
+            return Ok(Line::Opens);
         }
-        return plain(Line::Closes);
+        return Ok(Line::Closes);
     }
-    if same_bytes(line, b"COMMIT") {
-        return plain(Line::Closes);
+    if line == b"COMMIT".as_slice() {
+        return Ok(Line::Closes);
     }
     if line.len() == 0 || starts_with(line, HASH) {
-        return plain(Line::Passed);
+        return Ok(Line::Passed);
     }
     words_read(line)
 }

@@ -22,13 +22,10 @@ use Rattle.deployment.specs.FieldValues.{at_zero, left_by, left_alone, writing}
 use Rattle.deployment.specs.declared.Refusal.{Refusal}
 use Rattle.deployment.specs.declared.Why.{Why}
 use Rattle.deployment.specs.declared.Why.TheVariants.{NotRead, TooMany, Length, Room}
-use Rattle.deployment.specs.declared.Written.{Written}
-use Rattle.deployment.specs.declared.Written.TheVariants.{Bytes, Turned}
+use Rattle.std.specs.Prelude.{Result, Ok, Err}
 use Rattle.deployment.proofs.Storing.{stored_fills}
 use Rattle.deployment.proofs.Lent.{no_room, with_room, turned_away}
 use Rattle.catalogue.specs.Answers.{checking}
-use Rattle.catalogue.specs.declared.Checking.{Checking}
-use Rattle.catalogue.specs.declared.Checking.TheVariants as checked
 use Rattle.values.proofs.Given.{failed}
 use Rattle.iptables.specs.Listing.{Found, first_only, just_one, contents_of, gathered, listing_read}
 use Rattle.iptables.specs.Answers.{file_of_listing}
@@ -36,7 +33,6 @@ use Rattle.iptables.proofs.Contents.{file_length}
 use Rattle.iptables_reader.specs.Kept.{rule_at, action_if, bytes_needed}
 use Rattle.iptables_reader.specs.Gathering.{FoundAs, GatheredAs, written_for}
 use Rattle.iptables_reader.specs.declared.Seen.{Seen}
-use Rattle.iptables_reader.specs.declared.Gathered.TheVariants as gathered-as
 
 -- "just one `:FORWARD` line", counted to 2
 not_just_one : (defaults : List Action) → min 2 (length defaults) ≢ 1 → just_one defaults ≡ bad NotRead
@@ -66,7 +62,7 @@ module _ {listing marks starts : List ℕ} {seen : Seen} {f : Found} (so_far : F
   rules = first_only [] f.rules
 
   -- 57
-  pub finished_read : seen.defaults ≢ 1 → checked.Bad NotRead ≡ checking (gathered f)
+  pub finished_read : seen.defaults ≢ 1 → Err NotRead ≡ checking (gathered f)
   unfolding gathered checking
   finished_read other = rw (not_just_one f.defaults (λ e. other (so_far.defaults ∙ e)))
 
@@ -75,7 +71,7 @@ module _ {listing marks starts : List ℕ} {seen : Seen} {f : Found} (so_far : F
     alone = just_one_lem f.defaults (sym so_far.defaults ∙ one)
 
     -- 7
-    pub finished_many : most_rules < seen.rules → checked.Bad TooMany ≡ checking (gathered f)
+    pub finished_many : most_rules < seen.rules → Err TooMany ≡ checking (gathered f)
     unfolding gathered checking just_one
     finished_many many = rw (alone.1, lt-leb (length rules) most_rules (so_far.kept.over many))
 
@@ -84,7 +80,7 @@ module _ {listing marks starts : List ℕ} {seen : Seen} {f : Found} (so_far : F
       counted = sym (so_far.kept.exact fits)
 
       -- 4
-      pub finished_long : most_listed < seen.rules → checked.Bad Length ≡ checking (gathered f)
+      pub finished_long : most_listed < seen.rules → Err Length ≡ checking (gathered f)
       unfolding gathered checking just_one
       finished_long long =
           rw (alone.1, counted, le-leb seen.rules most_rules fits, lt-leb seen.rules most_listed long)
@@ -96,7 +92,7 @@ module _ {listing marks starts : List ℕ} {seen : Seen} {f : Found} (so_far : F
           rw (alone.1, counted, le-leb seen.rules most_rules fits, le-leb seen.rules most_listed few)
           (ap (λ (action : Action). good (contents_of rules action)) (so_far.permits alone.0 alone.1))
 
-pub good_checked : {read : Checked Contents} {c : Contents} → read ≡ good c → checked.Good ≡ checking read
+pub good_checked : {read : Checked Contents} {c : Contents} → read ≡ good c → Ok tt ≡ checking read
 unfolding checking
 good_checked e = rw e
 
@@ -106,11 +102,11 @@ pub record Fits (listing starts : List ℕ) (seen : Seen) (f : Found) : Type 0 w
   pub counted : length (map (rule_at listing) (take seen.rules starts)) ≡ seen.rules
   pub is : gathered f ≡ good (contents_of (map (rule_at listing) (take seen.rules starts)) (action_if seen.permits))
 
-turned_not_good {ℓ} : {A : Type ℓ} {why : Why} {answer : Checking} → checked.Bad why ≡ answer → checked.Good ≡ answer → A
-turned_not_good e g = absurd (let z : ◌≡◌ {A = ℕ} 0 1 = cc in omega arith)
+turned_not_good {ℓ} : {A : Type ℓ} {why : Why} {answer : Result (Unit {0}) Why} → Err why ≡ answer → Ok tt ≡ answer → A
+turned_not_good e g = absurd (cc)
 
 module _ {listing marks starts : List ℕ} {seen : Seen} {f : Found} (so_far : FoundAs listing marks starts seen f) where
-  pub passed_fits : checked.Good ≡ checking (gathered f) → Fits listing starts seen f
+  pub passed_fits : Ok tt ≡ checking (gathered f) → Fits listing starts seen f
   passed_fits good-is =
       by_test (eqb seen.defaults 1)
       (λ t. let one = eqb-true seen.defaults 1 t in
@@ -130,8 +126,8 @@ module _ {listing marks starts : List ℕ} {seen : Seen} {f : Found} (so_far : F
       (λ w. turned_not_good (finished_read so_far (eqb-false seen.defaults 1 w)) good-is)
 
 -- What is left of a place for what was found: turned away at 0 ..
-pub written_turned : (f : Found) (place : List ℕ) (why : Why) → checked.Bad why ≡ checking (gathered f)
-    → left_by (Turned (record { why = why; at = 0 })) place ≡ written_for f place
+pub written_turned : (f : Found) (place : List ℕ) (why : Why) → Err why ≡ checking (gathered f)
+    → left_by (Err (record { why = why; at = 0 })) place ≡ written_for f place
 unfolding written_for at_zero
 written_turned f place why e = rw (failed (gathered f) why e)
 
@@ -147,26 +143,26 @@ module _ {listing starts : List ℕ} {seen : Seen} {f : Found} (fit : Fits listi
       ∙ sym needed
 
   -- .. for too little room ..
-  pub written_small : length place < n → left_by (Turned (record { why = Room; at = n })) place ≡ written_for f place
+  pub written_small : length place < n → left_by (Err (record { why = Room; at = n })) place ≡ written_for f place
   unfolding written_for at_zero writing
-  written_small small = rw fit.is (no_room Turned (Bytes (length (file_of contents))) (file_of contents) place n long small)
+  written_small small = rw fit.is (no_room Err (Ok (length (file_of contents))) (file_of contents) place n long small)
 
   -- .. or filled with the file
-  pub written_file : n ≤ length place → {after : List ℕ} → after ≡ sets place 0 (file_of contents) → left_by (Bytes n) after ≡ written_for f place
+  pub written_file : n ≤ length place → {after : List ℕ} → after ≡ sets place 0 (file_of contents) → left_by (Ok n) after ≡ written_for f place
   unfolding written_for at_zero writing
   written_file room put =
       rw (fit.is, ← long)
-      (with_room Turned (Bytes (length (file_of contents))) (file_of contents) place n long room
+      (with_room Err (Ok (length (file_of contents))) (file_of contents) place n long room
       (stored_fills (record { place = put; end = refl }) (omega (arith, long))))
 
 -- The whole listing: its refusal, or the file of what was found.
-pub listing_turned : (listing marks starts place : List ℕ) (refusal : Refusal) → GatheredAs listing marks starts (gathered-as.Turned refusal)
-    → left_by (Turned refusal) place ≡ file_of_listing listing place
+pub listing_turned : (listing marks starts place : List ℕ) (refusal : Refusal) → GatheredAs listing marks starts (Err refusal)
+    → left_by (Err refusal) place ≡ file_of_listing listing place
 unfolding file_of_listing
 listing_turned listing marks starts place refusal read =
-    turned_away (λ c. writing (file_of c) place) (left_alone Turned place) refusal read
+    turned_away (λ c. writing (file_of c) place) (left_alone Err place) refusal read
 
-pub listing_written : (listing place after : List ℕ) (f : Found) (answer : Written) → listing_read listing ≡ at_zero (gathered f)
+pub listing_written : (listing place after : List ℕ) (f : Found) (answer : Result ℕ Refusal) → listing_read listing ≡ at_zero (gathered f)
     → left_by answer after ≡ written_for f place → left_by answer after ≡ file_of_listing listing place
 unfolding file_of_listing written_for
 listing_written listing place after f answer read left = rw read left

@@ -14,7 +14,7 @@ use Rattle.deployment.specs.Checked.{Checked, good, bad}
 use Rattle.deployment.specs.File.{refused}
 use Rattle.deployment.specs.declared.Why.{Why}
 use Rattle.deployment.specs.declared.Why.TheVariants.{NotRead}
-use Rattle.catalogue.specs.declared.Checking.TheVariants as checked
+use Rattle.std.specs.Prelude.{Ok, Err}
 use Rattle.iptables.specs.Words.{line_feed, cut_at}
 use Rattle.iptables.specs.Listing.{Found, nothing_found, lines_of, stepped, read_from, listing_read}
 use Rattle.iptables.proofs.Parting.{lines_cut, no_line}
@@ -22,8 +22,6 @@ use Rattle.iptables_words.proofs.Pieces.{piece_ends}
 use Rattle.iptables_reader.specs.Kept.{line_at}
 use Rattle.iptables_reader.specs.Gathering.{FoundAs, SteppedAs, Steps, GatheredAs}
 use Rattle.iptables_reader.specs.declared.Seen.{Seen}
-use Rattle.iptables_reader.specs.declared.Step.{Step}
-use Rattle.iptables_reader.specs.declared.Gathered.TheVariants as gathered-as
 use Rattle.iptables_reader.proofs.Stepping.{nothing_seen}
 
 -- The lines before the one with this number, which goes from `start` to `end`.
@@ -50,15 +48,14 @@ no_line_seen listing marks starts end marks-fit starts_fit ends =
     }
 
 -- A step tells what was found with the line, or why it is turned away.
-step_good : (listing marks starts : List ℕ) (found : Checked Found) (step : Step) → SteppedAs listing marks starts found step
-    → step.checking ≡ checked.Good → (g : Found) × (found ≡ good g) × FoundAs listing marks starts step.seen g
-step_good listing marks starts (good g) step (is, more) e = (g, refl, more)
-step_good listing marks starts (bad why) step is e = absurd (let z : ◌≡◌ {A = ℕ} 0 1 = cc in omega arith)
+step_good : (listing marks starts : List ℕ) (found : Checked Found) (seen : Seen) → SteppedAs listing marks starts found (Ok seen)
+    → (g : Found) × (found ≡ good g) × FoundAs listing marks starts seen g
+step_good listing marks starts (good g) seen (other, is, more) = let same : seen ≡ other = cc in (g, refl, rw same more)
+step_good listing marks starts (bad why) seen is = absurd (cc)
 
-step_bad : (listing marks starts : List ℕ) (found : Checked Found) (step : Step) (why : Why) → SteppedAs listing marks starts found step
-    → step.checking ≡ checked.Bad why → found ≡ bad why
-step_bad listing marks starts (good g) step why (is, more) e = absurd (let z : ◌≡◌ {A = ℕ} 0 1 = cc (is, e) in omega arith)
-step_bad listing marks starts (bad other) step why is e = let same : other ≡ why = cc in ap bad same
+step_bad : (listing marks starts : List ℕ) (found : Checked Found) (why : Why) → SteppedAs listing marks starts found (Err why) → found ≡ bad why
+step_bad listing marks starts (good g) why (other, is, more) = absurd (cc)
+step_bad listing marks starts (bad other) why is = let same : other ≡ why = cc in ap bad same
 
 -- The lines from one on, by what that one does.
 module _ (number : ℕ) (f : Found) (line : List ℕ) (lines : List (List ℕ)) where
@@ -91,22 +88,23 @@ module _ {listing marks starts : List ℕ} {seen : Seen} {number start end : ℕ
     unfolding line_at
     first_line = lines_cut rest cut_line ∙ ap (λ (s : List ℕ). take (cut_at line_feed rest) rest ∷ lines_of s) next_rest
 
-    module _ (marks-after starts-after : List ℕ) (step : Step)
-        (steps : Steps listing start seen marks starts step marks-after starts-after) where
+    module _ (marks-after starts-after : List ℕ) where
       abbrev found_with : Checked Found
       found_with = stepped so_far.found (line_at start listing)
 
       -- 57, 58
-      pub line_turned : (why : Why) → step.checking ≡ checked.Bad why → listing_read listing ≡ refused (record { why = why; at = number })
-      line_turned why e =
-          let turned = step_bad listing marks-after starts-after found_with step why (steps so_far.found so_far.is) e in
+      pub line_turned : (why : Why) → Steps listing start seen marks starts (Err why) marks-after starts-after
+          → listing_read listing ≡ refused (record { why = why; at = number })
+      line_turned why steps =
+          let turned = step_bad listing marks-after starts-after found_with why (steps so_far.found so_far.is) in
           so_far.read ∙ rw first_line (turns_away number so_far.found (line_at start listing) (lines_of (drop (end + 1) listing)) why turned)
 
       -- a line more
-      pub line_seen : {next : ℕ} → step.checking ≡ checked.Good → next ≡ end + 1 + cut_at line_feed (drop (end + 1) listing)
-          → LinesSeen listing marks-after starts-after step.seen (number + 1) (end + 1) next
-      line_seen e ends =
-          let (g, found, seen-so) = step_good listing marks-after starts-after found_with step (steps so_far.found so_far.is) e in
+      pub line_seen : {next : ℕ} (more-seen : Seen) → Steps listing start seen marks starts (Ok more-seen) marks-after starts-after
+          → next ≡ end + 1 + cut_at line_feed (drop (end + 1) listing)
+          → LinesSeen listing marks-after starts-after more-seen (number + 1) (end + 1) next
+      line_seen more-seen steps ends =
+          let (g, found, seen-so) = step_good listing marks-after starts-after found_with more-seen (steps so_far.found so_far.is) in
           record {
             found = g;
             is = seen-so;
@@ -129,6 +127,6 @@ module _ {listing marks starts : List ℕ} {seen : Seen} {number start end : ℕ
     unfolding read_from
     cut_short here = last_read ∙ rw (sym so_far.is.inside ∙ here)
 
-    pub all_seen : seen.inside ≡ false → GatheredAs listing marks starts (gathered-as.Is seen)
+    pub all_seen : seen.inside ≡ false → GatheredAs listing marks starts (Ok seen)
     unfolding read_from
     all_seen outside = (so_far.found, so_far.is, last_read ∙ rw (sym so_far.is.inside ∙ outside))

@@ -1,21 +1,16 @@
 -- What is seen of a listing so far against what was found by the definitions of `iptables`. Assumes nothing.
-use Rattle.std.specs.Prelude.{ℕ, min, ◌≡◌, Bool, true, false, cond, List, [], ◌∷◌, length, eqb}
+use Rattle.std.specs.Prelude.{Result, Ok, Err, ℕ, min, ◌≡◌, Bool, true, false, cond, List, [], ◌∷◌, length, eqb}
 use Rattle.policy.specs.declared.Action.{Action}
 use Rattle.policy.specs.declared.Action.TheVariants.{Deny, Permit}
 use Rattle.deployment.specs.Checked.{Checked, good, bad}
 use Rattle.deployment.specs.File.{file_of, refused}
 use Rattle.deployment.specs.FieldValues.{at_zero, answered, left_by, left_alone, Writing, writing}
-use Rattle.deployment.specs.declared.Written.{Written}
-use Rattle.deployment.specs.declared.Written.TheVariants.{Turned}
+use Rattle.deployment.specs.declared.Refusal.{Refusal}
+use Rattle.deployment.specs.declared.Why.{Why}
 use Rattle.catalogue.specs.Answers.{checking}
-use Rattle.catalogue.specs.declared.Checking.{Checking}
-use Rattle.catalogue.specs.declared.Checking.TheVariants as checked
 use Rattle.iptables.specs.Listing.{Found, first_only, stepped, gathered, listing_read}
 use Rattle.iptables_reader.specs.Kept.{line_at, Kept, action_if}
 use Rattle.iptables_reader.specs.declared.Seen.{Seen}
-use Rattle.iptables_reader.specs.declared.Step.{Step}
-use Rattle.iptables_reader.specs.declared.Gathered.{Gathered}
-use Rattle.iptables_reader.specs.declared.Gathered.TheVariants as gathered-as
 
 -- one `:FORWARD` line more
 unfoldable pub permitted : Action → Bool
@@ -32,12 +27,8 @@ with_default seen action =
     }
 
 -- a line that has no rule and no default
-unfoldable pub going_on : Seen → Bool → Step
-going_on seen inside =
-    record {
-      checking = checked.Good;
-      seen = record { inside = inside; defaults = seen.defaults; permits = seen.permits; rules = seen.rules };
-    }
+unfoldable pub going_on : Seen → Bool → Seen
+going_on seen inside = record { inside = inside; defaults = seen.defaults; permits = seen.permits; rules = seen.rules }
 
 -- what is seen is what was found: the defaults counted to 2, the different rules to 1,025
 pub record FoundAs (listing marks starts : List ℕ) (seen : Seen) (f : Found) : Type 0 where
@@ -50,27 +41,27 @@ abbrev pub SomeFound : List ℕ → List ℕ → List ℕ → Seen → Type 0
 SomeFound listing marks starts seen = (f : Found) × FoundAs listing marks starts seen f
 
 -- one line more, or why it is turned away
-abbrev pub SteppedAs : List ℕ → List ℕ → List ℕ → Checked Found → Step → Type 0
-SteppedAs listing marks starts (good f) step = (step.checking ≡ checked.Good) × FoundAs listing marks starts step.seen f
-SteppedAs listing marks starts (bad why) step = step.checking ≡ checked.Bad why
+abbrev pub SteppedAs : List ℕ → List ℕ → List ℕ → Checked Found → Result Seen Why → Type 0
+SteppedAs listing marks starts (good f) answer = (seen : Seen) × (answer ≡ Ok seen) × FoundAs listing marks starts seen f
+SteppedAs listing marks starts (bad why) answer = answer ≡ Err why
 
-abbrev pub Steps : List ℕ → ℕ → Seen → List ℕ → List ℕ → Step → List ℕ → List ℕ → Type 0
-Steps listing start seen marks starts step marks-after starts-after =
-    (f : Found) → FoundAs listing marks starts seen f → SteppedAs listing marks-after starts-after (stepped f (line_at start listing)) step
+abbrev pub Steps : List ℕ → ℕ → Seen → List ℕ → List ℕ → Result Seen Why → List ℕ → List ℕ → Type 0
+Steps listing start seen marks starts answer marks-after starts-after =
+    (f : Found) → FoundAs listing marks starts seen f → SteppedAs listing marks-after starts-after (stepped f (line_at start listing)) answer
 
 -- all lines: what they have, by which the listing is read, or its refusal
-abbrev pub GatheredAs : List ℕ → List ℕ → List ℕ → Gathered → Type 0
-GatheredAs listing marks starts (gathered-as.Is seen) = (f : Found) × FoundAs listing marks starts seen f × (listing_read listing ≡ at_zero (gathered f))
-GatheredAs listing marks starts (gathered-as.Turned refusal) = listing_read listing ≡ refused refusal
+abbrev pub GatheredAs : List ℕ → List ℕ → List ℕ → Result Seen Refusal → Type 0
+GatheredAs listing marks starts (Ok seen) = (f : Found) × FoundAs listing marks starts seen f × (listing_read listing ≡ at_zero (gathered f))
+GatheredAs listing marks starts (Err refusal) = listing_read listing ≡ refused refusal
 
 -- the file of what was found
 unfoldable pub written_for : Found → List ℕ → Writing
-written_for f place = answered (λ c. writing (file_of c) place) (left_alone Turned place) (at_zero (gathered f))
+written_for f place = answered (λ c. writing (file_of c) place) (left_alone Err place) (at_zero (gathered f))
 
 -- the tests at 0, and the file, of whatever was found
-abbrev pub Finishes : Seen → Checking → Type 0
+abbrev pub Finishes : Seen → Result Unit Why → Type 0
 Finishes seen answer = (listing marks starts : List ℕ) (f : Found) → FoundAs listing marks starts seen f → answer ≡ checking (gathered f)
 
-abbrev pub Writes : List ℕ → List ℕ → Seen → List ℕ → Written → List ℕ → Type 0
+abbrev pub Writes : List ℕ → List ℕ → Seen → List ℕ → Result ℕ Refusal → List ℕ → Type 0
 Writes listing starts seen before answer after =
     (marks : List ℕ) (f : Found) → FoundAs listing marks starts seen f → left_by answer after ≡ written_for f before

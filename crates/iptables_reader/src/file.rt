@@ -33,15 +33,13 @@ fn put_rules(listing: &[u8], starts: &[usize], count: usize, place: &mut [u8])
     ensures { place.new ≡ sets place.old 0 (rules_fields (map (rule_at listing.now) (take count starts.now))) }
 {
     let head = [RULE_TAG, 0, RULE_BYTES as u8];
-    let mut k = 0;
-    while k < count {
+    for k in 0..count {
         store(place, k * RULE_FIELD_BYTES, &head);
         store(
             place,
             k * RULE_FIELD_BYTES + HEAD_BYTES,
             &record_at(listing, starts[k]),
         );
-        k += 1;
     }
 }
 
@@ -53,11 +51,9 @@ fn put_numbers(place: &mut [u8], at: usize, tag: u8, count: usize)
     let size = NUMBER_BYTES * count;
     let head = [tag, (size / 256) as u8, (size % 256) as u8];
     store(place, at, &head);
-    let mut k = 0;
-    while k < count {
+    for k in 0..count {
         let number = [(k / 256) as u8, (k % 256) as u8];
         store(place, at + HEAD_BYTES + NUMBER_BYTES * k, &number);
-        k += 1;
     }
 }
 

@@ -10,8 +10,7 @@ ghost use Rattle.iptables.specs.Words.{line_feed, cut_at};
 ghost use Rattle.iptables.specs.Answers.{file_of_listing};
 ghost use Rattle.iptables_reader.specs.Gathering.{with_default, going_on, SomeFound, Steps, GatheredAs, Finishes, Writes};
 
-use catalogue::Checking;
-use deployment::{Refusal, Why, Written};
+use deployment::{Refusal, Why};
 use file::{bytes_needed, put_file};
 use format::{LIST_BYTES, NUMBER_BYTES};
 use iptables_lines::{Line, is_filter, line_read};
@@ -40,20 +39,6 @@ struct Seen {
     rules: usize,
 }
 
-// What is seen with one line more, or why the line is turned away.
-#[derive(Clone, Copy)]
-struct Step {
-    checking: Checking,
-    seen: Seen,
-}
-
-// What all lines have, or the refusal.
-#[derive(Clone, Copy)]
-enum Gathered {
-    Is(Seen),
-    Turned(Refusal),
-}
-
 // One `:FORWARD` line more.
 fn with_default(seen: Seen, action: Action) -> Seen
     ensures { result ≡ with_default seen action }
@@ -64,26 +49,17 @@ fn with_default(seen: Seen, action: Action) -> Seen
     };
     let defaults = if seen.defaults == 0 { 1u8 } else { 2 };
     Seen {
-        inside: seen.inside,
         defaults,
         permits,
-        rules: seen.rules,
+        ..seen
     }
 }
 
 // A line that has no rule and no default: the next one stands in the part, or not.
-fn going_on(seen: Seen, inside: bool) -> Step
+fn going_on(seen: Seen, inside: bool) -> Seen
     ensures { result ≡ going_on seen inside }
 {
-    Step {
-        checking: Checking::Good,
-        seen: Seen {
-            inside,
-            defaults: seen.defaults,
-            permits: seen.permits,
-            rules: seen.rules,
-        },
-    }
+    Seen { inside, ..seen }
 }
 
 // One line of the part more, from `start` to `end`.
@@ -94,35 +70,21 @@ fn stepped_inside(
     seen: Seen,
     marks: &mut [u32],
     starts: &mut [usize],
-) -> Step
+) -> Result<Seen, Why>
     requires { (end ≡ start + cut_at line_feed (drop start listing.now)) × (end ≤ length listing.now) × (seen.inside ≡ true)
         × SomeFound listing.now marks.old starts.old seen }
     ensures { Steps listing.now start seen marks.old starts.old result marks.new starts.new }
 {
-    let read = line_read(&listing[start..end]);
-    let is = read.line;
-    let bytes = read.bytes;
-    match is {
-        Line::Opens => going_on(seen, true),
-        Line::Closes => going_on(seen, false),
-        Line::Passed => going_on(seen, true),
-        Line::Default(action) => Step {
-            checking: Checking::Good,
-            seen: with_default(seen, action),
-        },
-        Line::Rule => Step {
-            checking: Checking::Good,
-            seen: Seen {
-                inside: true,
-                defaults: seen.defaults,
-                permits: seen.permits,
-                rules: keep(listing, marks, starts, seen.rules, start, bytes),
-            },
-        },
-        Line::Turned(why) => Step {
-            checking: Checking::Bad(why),
-            seen,
-        },
+    match line_read(&listing[start..end])? {
+        Line::Opens => Ok(going_on(seen, true)),
+        Line::Closes => Ok(going_on(seen, false)),
+        Line::Passed => Ok(going_on(seen, true)),
+        Line::Default(action) => Ok(with_default(seen, action)),
+        Line::Rule(bytes) => Ok(Seen {
+            inside: true,
+            rules: keep(listing, marks, starts, seen.rules, start, bytes),
+            ..seen
+        }),
     }
 }
 
@@ -134,19 +96,19 @@ fn stepped(
     seen: Seen,
     marks: &mut [u32],
     starts: &mut [usize],
-) -> Step
+) -> Result<Seen, Why>
     requires { (end ≡ start + cut_at line_feed (drop start listing.now)) × (end ≤ length listing.now)
         × SomeFound listing.now marks.old starts.old seen }
     ensures { Steps listing.now start seen marks.old starts.old result marks.new starts.new }
 {
     if !seen.inside {
-        return going_on(seen, is_filter(&listing[start..end]));
+        return Ok(going_on(seen, is_filter(&listing[start..end])));
     }
     stepped_inside(listing, start, end, seen, marks, starts)
 }
 
 // All lines, one after another: 57 and 58 by line, and 57 where the listing ends inside the part.
-fn gather(listing: &[u8], marks: &mut [u32], starts: &mut [usize]) -> Gathered
+fn gather(listing: &[u8], marks: &mut [u32], starts: &mut [usize]) -> Result<Seen, Refusal>
     requires { (length marks.old ≡ most_rules) × (length starts.old ≡ most_rules) }
     ensures { GatheredAs listing.now marks.new starts.new result }
 {
@@ -159,71 +121,64 @@ fn gather(listing: &[u8], marks: &mut [u32], starts: &mut [usize]) -> Gathered
     let mut number = 1;
     let mut start = 0;
     let mut end = cut(listing, start, LINE_FEED);
+    // Kept: a turn goes on behind a line, as long as it is.
     while end < listing.len() {
-        let step = stepped(listing, start, end, seen, marks, starts);
-        let checking = step.checking;
-        if let Checking::Bad(why) = checking {
-            return Gathered::Turned(Refusal { why, at: number });
-        }
-        seen = step.seen;
+        seen = match stepped(listing, start, end, seen, marks, starts) {
+            Ok(next) => next,
+            Err(why) => return Err(Refusal { why, at: number }),
+        };
         number += 1;
         start = end + 1;
         end = cut(listing, start, LINE_FEED);
     }
     if seen.inside {
-        return Gathered::Turned(Refusal {
+        return Err(Refusal {
             why: Why::NotRead,
             at: number,
         });
     }
-    Gathered::Is(seen)
+    Ok(seen)
 }
 
 // "57 at 0 unless just one `:FORWARD` line stands ..; then 7 at 0 .., then 4 at 0"
-fn finished(seen: Seen) -> Checking
+fn finished(seen: Seen) -> Result<(), Why>
     ensures { Finishes seen result }
 {
     if seen.defaults != 1 {
-        return Checking::Bad(Why::NotRead);
+        return Err(Why::NotRead);
     }
     if MOST_RULES < seen.rules {
-        return Checking::Bad(Why::TooMany);
+        return Err(Why::TooMany);
     }
     if MOST_LISTED < seen.rules {
-        return Checking::Bad(Why::Length);
+        return Err(Why::Length);
     }
-    Checking::Good
+    Ok(())
 }
 
 // The file of what all lines have, in the first bytes of the place; last 13.
-fn written(listing: &[u8], starts: &[usize], seen: Seen, place: &mut [u8]) -> Written
+fn written(listing: &[u8], starts: &[usize], seen: Seen, place: &mut [u8]) -> Result<usize, Refusal>
     requires { (marks : List ℕ) × SomeFound listing.now marks starts.now seen }
     ensures { Writes listing.now starts.now seen place.old result place.new }
 {
-    let checking = finished(seen);
-    if let Checking::Bad(why) = checking {
-        return Written::Turned(Refusal { why, at: 0 });
-    }
+    finished(seen)?;
     let needed = bytes_needed(seen.rules, seen.permits);
     if place.len() < needed {
-        return Written::Turned(Refusal {
+        return Err(Refusal {
             why: Why::Room,
             at: needed,
         });
     }
     put_file(listing, starts, seen.rules, seen.permits, place);
-    Written::Bytes(needed)
+    Ok(needed)
 }
 
 // The deployment file of a listing, in the first bytes of the place: 57 and 58 by line, then 57, 7 and 4 at 0, and last 13.
-pub fn from_iptables(listing: &[u8], place: &mut [u8]) -> Written
+pub fn from_iptables(listing: &[u8], place: &mut [u8]) -> Result<usize, Refusal>
     ensures { left_by result place.new ≡ file_of_listing listing.now place.old }
 {
     let mut marks = [0u32; MOST_RULES];
     let mut starts = [0usize; MOST_RULES];
-    let gathered = gather(listing, &mut marks, &mut starts);
-    match gathered {
-        Gathered::Turned(refusal) => Written::Turned(refusal),
-        Gathered::Is(seen) => written(listing, &starts, seen, place),
-    }
+    let seen = gather(listing, &mut marks, &mut starts)?;
+    written(listing, &starts, seen, place)
 }

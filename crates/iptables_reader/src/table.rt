@@ -7,9 +7,9 @@ ghost use Rattle.deployment.specs.Values.{rule_bytes};
 ghost use Rattle.deployment.specs.Properties.{Recordable};
 ghost use Rattle.iptables_reader.specs.Kept.{rule_at, records_at, marks_at, known_record, Kept, Keeps};
 
-use catalogue::rule::{mark_of, same_bytes};
+use catalogue::rule::mark_of;
 use format::RULE_BYTES;
-use iptables_lines::line_read;
+use iptables_lines::{Line, line_read};
 use iptables_rule::no_record;
 use iptables_words::cut;
 use policy::MOST_RULES;
@@ -24,8 +24,13 @@ pub fn record_at(listing: &[u8], start: usize) -> [u8; RULE_BYTES]
         return no_record();
     }
     let end = cut(listing, start, LINE_FEED);
-    let read = line_read(&listing[start..end]);
-    read.bytes
+    let Ok(line) = line_read(&listing[start..end]) else {
+        return no_record();
+    };
+    match line {
+        Line::Rule(bytes) => bytes,
+        _ => no_record(),
+    }
 }
 
 // Whether one of the first `count` rules has this record.
@@ -35,12 +40,10 @@ fn is_kept(listing: &[u8], marks: &[u32], starts: &[usize], count: usize, bytes:
     ensures { result ≡ known_record bytes.now (records_at listing.now (take count starts.now)) }
 {
     let mark = mark_of(bytes) as u32;
-    let mut k = 0;
-    while k < count {
-        if marks[k] == mark && same_bytes(&record_at(listing, starts[k]), bytes) {
+    for k in 0..count {
+        if marks[k] == mark && record_at(listing, starts[k]).as_slice() == bytes {
             return true;
         }
-        k += 1;
     }
     false
 }

@@ -2,25 +2,23 @@
 use Prim.Native.Nat.{ℕ}
 use native.Mathlib.Omega.{arith}
 use mathlib.Core.Path.{◌≡◌, refl, sym, ap}
-use mathlib.Core.Bool.{Bool, true, false}
 use mathlib.Core.Logic.{◌≢◌}
 use mathlib.Core.List.{List, [], ◌∷◌}
 use borrow.Author.Tests.{eq-eqb, ne_eqb}
 use Rattle.policy.specs.Rule.{Range}
 use Rattle.policy.specs.declared.Action.{Action}
-use Rattle.policy.proofs.Tests.{never}
 use Rattle.deployment.specs.Checked.{Checked, good, bad}
+use Rattle.deployment.specs.declared.Why.{Why}
 use Rattle.deployment.specs.declared.Why.TheVariants.{NotRead}
 use Rattle.iptables.specs.Words.{meant, full}
 use Rattle.iptables.specs.Options.{at_most_once, target_given}
 use Rattle.iptables.specs.declared.Kind.{Kind}
-use Rattle.iptables_words.specs.Told.{range_told}
-use Rattle.iptables_words.specs.declared.Ranged.TheVariants as ranged
+use Rattle.iptables_words.specs.Told.{bounds_of, range_told}
+use Rattle.iptables_words.specs.declared.Bounds.{Bounds}
 use Rattle.iptables_words.proofs.Pieces.{Several}
-use Rattle.iptables_rule.specs.Found.{word_of, Looked, range_found, bounds_told, range_of, target_told}
+use Rattle.iptables_rule.specs.Found.{word_of, Looked, range_found, range_of, target_told}
 use Rattle.iptables_rule.specs.declared.Found.{Found}
-use Rattle.iptables_rule.specs.declared.Bounds.{Bounds}
-use Rattle.iptables_rule.specs.declared.Target.TheVariants as target
+use Rattle.std.specs.Prelude.{Some, None}
 
 -- The words, by how often the option is given.
 module _ {line : List ℕ} {before : ℕ} {found : Found} where
@@ -64,39 +62,24 @@ module _ {line : List ℕ} {before : ℕ} {found : Found} where
   no_target {words = word ∷ next ∷ words} seen other = refl
 
 -- What is told of a range, or of none; and what that says.
-abbrev bounds : Bool → ℕ → ℕ → Bounds
-bounds read low high = record { read = read; low = low; high = high }
+pub range_is : (read : Checked Range) (b : Bounds) → Some b ≡ range_told read → read ≡ good (range_of b)
+unfolding range_told
+range_is (good range) b e = let same : b ≡ bounds_of range = cc in rw same refl
+range_is (bad why) b e = absurd (cc)
 
-pub bounds_is : (read : Checked Range) (low high : ℕ) → ranged.Is low high ≡ range_told read → bounds true low high ≡ bounds_told read
-unfolding range_told bounds_told
-bounds_is (good range) low high e =
-    let same_low : low ≡ range.low = cc in
-    let same_high : high ≡ range.high = cc in
-    λ i. bounds true (same_low i) (same_high i)
-bounds_is (bad why) low high e = absurd (let z : ◌≡◌ {A = ℕ} 0 1 = cc in omega arith)
-
-pub bounds_not : (read : Checked Range) → ranged.Not ≡ range_told read → bounds false 0 0 ≡ bounds_told read
-unfolding range_told bounds_told
-bounds_not (good range) e = absurd (let z : ◌≡◌ {A = ℕ} 0 1 = cc in omega arith)
-bounds_not (bad why) e = refl
-
-pub bounds_read : (read : Checked Range) (b : Bounds) → b ≡ bounds_told read → b.read ≡ true → read ≡ good (range_of b)
-unfolding bounds_told
-bounds_read (good range) b e is = rw e refl
-bounds_read (bad why) b e is = never is (ap (λ (b : Bounds). b.read) e)
-
-pub is_read : (read : Checked Range) (b : Bounds) → b ≡ bounds_told read → (range : Range) → read ≡ good range → b.read ≡ true
-unfolding bounds_told
-is_read read b e range is = rw (e, is) refl
+pub range_not : (read : Checked Range) → None ≡ range_told read → (why : Why) × (read ≡ bad why)
+unfolding range_told
+range_not (good range) e = absurd (cc)
+range_not (bad why) e = (why, refl)
 
 -- What is told of a target.
-pub target_is : (read : Checked Action) (action : Action) → target.Is action ≡ target_told read → read ≡ good action
+pub target_is : (read : Checked Action) (action : Action) → Some action ≡ target_told read → read ≡ good action
 unfolding target_told
 target_is (good other) action e = let same : other ≡ action = cc in ap good same
-target_is (bad why) action e = absurd (let z : ◌≡◌ {A = ℕ} 0 1 = cc in omega arith)
+target_is (bad why) action e = absurd (cc)
 
-pub target_not : (read : Checked Action) → target.Not ≡ target_told read → (action : Action) → read ≢ good action
+pub target_not : (read : Checked Action) → None ≡ target_told read → (action : Action) → read ≢ good action
 unfolding target_told
 target_not read e action is =
-    let told : target.Not ≡ target.Is action = rw is at e in
-    absurd (let z : ◌≡◌ {A = ℕ} 0 1 = cc in omega arith)
+    let told : None ≡ Some action = rw is at e in
+    absurd (cc)

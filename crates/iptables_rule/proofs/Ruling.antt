@@ -6,7 +6,7 @@ use mathlib.Core.Bool.{Bool, true, false, ◌&&◌}
 use mathlib.Core.List.{List}
 use Rattle.policy.specs.Rule.{Rule}
 use Rattle.policy.specs.declared.Action.{Action}
-use Rattle.policy.proofs.Tests.{by_test, never, and_both, both_and}
+use Rattle.policy.proofs.Tests.{by_test}
 use Rattle.deployment.specs.Checked.{Checked, good, bad, ◌>>=◌}
 use Rattle.deployment.specs.Values.{rising}
 use Rattle.deployment.specs.declared.Why.{Why}
@@ -16,10 +16,10 @@ use Rattle.lines.specs.Text.{text}
 use Rattle.iptables.specs.Options.{Given, pairs, even, words_at, range_given, target_given, port_fits, module_fits, rule_given, rule_read}
 use Rattle.iptables.specs.declared.Kind.TheVariants.{Protocol, Address, Port}
 use Rattle.iptables.proofs.Options.{rule_not_said}
-use Rattle.iptables_rule.specs.Found.{bounds_told, range_of}
-use Rattle.iptables_rule.specs.declared.Bounds.{Bounds}
+use Rattle.iptables_rule.specs.Found.{range_of, ranges_read, ranges_told, rule_of}
+use Rattle.iptables_rule.specs.declared.Ranges.{Ranges}
 use Rattle.iptables_rule.proofs.Turns.{known}
-use Rattle.iptables_rule.proofs.Finding.{bounds_read, is_read}
+use Rattle.std.specs.Prelude.{Some, None}
 
 -- whether the options that need one stand behind `-p`
 abbrev pub stand : List Given → Bool
@@ -109,51 +109,54 @@ module _ (words : List (List ℕ)) where
     unfolding rule_read
     read t = rw (whole, parts_given (pairs words) r parts, t) refl
 
--- What is told of the parts: a target that is read, and each range as its bounds.
-pub record Told (given : List Given) (action : Action) (p s sp d dp : Bounds) : Type 0 where
-  pub target : target_given (words_at (text "-j") given) ≡ good action
-  pub protocol : p ≡ bounds_told (range_given Protocol (text "-p") given)
-  pub source : s ≡ bounds_told (range_given Address (text "-s") given)
-  pub source_port : sp ≡ bounds_told (range_given Port (text "--sport") given)
-  pub destination : d ≡ bounds_told (range_given Address (text "-d") given)
-  pub destination_port : dp ≡ bounds_told (range_given Port (text "--dport") given)
+-- Each range is read.
+pub record AllRead (given : List Given) (ranges : Ranges) : Type 0 where
+  pub protocol : range_given Protocol (text "-p") given ≡ good (range_of ranges.protocol)
+  pub source : range_given Address (text "-s") given ≡ good (range_of ranges.source)
+  pub source_port : range_given Port (text "--sport") given ≡ good (range_of ranges.source_port)
+  pub destination : range_given Address (text "-d") given ≡ good (range_of ranges.destination)
+  pub destination_port : range_given Port (text "--dport") given ≡ good (range_of ranges.destination_port)
 
-module _ {given : List Given} {action : Action} {p s sp d dp : Bounds} (told : Told given action p s sp d dp) where
-  abbrev pub rule : Rule
-  rule =
-      record {
-        action = action;
-        protocol = range_of p;
-        source = range_of s;
-        source_port = range_of sp;
-        destination = range_of d;
-        destination_port = range_of dp;
-      }
+all_read : (given : List Given) → Each (AllRead given) (λ why. Unit {0}) (ranges_read given)
+unfolding ranges_read
+all_read given =
+    let P = AllRead given in
+    itself P (range_given Protocol (text "-p") given) _ λ p protocol.
+    itself P (range_given Address (text "-s") given) _ λ s source.
+    itself P (range_given Port (text "--sport") given) _ λ sp source_port.
+    itself P (range_given Address (text "-d") given) _ λ d destination.
+    itself P (range_given Port (text "--dport") given) _ λ dp destination_port.
+    record {
+      protocol = protocol;
+      source = source;
+      source_port = source_port;
+      destination = destination;
+      destination_port = destination_port;
+    }
 
-  pub told_parts : known given ≡ true → stand given ≡ true → (p.read && s.read && sp.read && d.read && dp.read) ≡ true → Parts given rule
-  told_parts all_known all_stand all_read =
-      let (four, is-dp) = and_both (p.read && s.read && sp.read && d.read) dp.read all_read in
-      let (three, is-d) = and_both (p.read && s.read && sp.read) d.read four in
-      let (two, is-sp) = and_both (p.read && s.read) sp.read three in
-      let (is-p, is-s) = and_both p.read s.read two in
-      record {
-        all_known = all_known;
-        target = told.target;
-        protocol = bounds_read (range_given Protocol (text "-p") given) p told.protocol is-p;
-        source = bounds_read (range_given Address (text "-s") given) s told.source is-s;
-        source_port = bounds_read (range_given Port (text "--sport") given) sp told.source_port is-sp;
-        destination = bounds_read (range_given Address (text "-d") given) d told.destination is-d;
-        destination_port = bounds_read (range_given Port (text "--dport") given) dp told.destination_port is-dp;
-        all_stand = all_stand;
-      }
+-- What is told of the ranges: each is read, or one isn't.
+told_is : (read : Checked Ranges) (ranges : Ranges) → Some ranges ≡ ranges_told read → read ≡ good ranges
+unfolding ranges_told
+told_is (good other) ranges e = let same : other ≡ ranges = cc in ap good same
+told_is (bad why) ranges e = absurd (cc)
 
-  pub told_missing : (p.read && s.read && sp.read && d.read && dp.read) ≡ false → (r : Rule) → ¬ Parts given r
-  told_missing missing r parts =
-      never
-      (both_and (both_and (both_and (both_and
-      (is_read (range_given Protocol (text "-p") given) p told.protocol r.protocol parts.protocol)
-      (is_read (range_given Address (text "-s") given) s told.source r.source parts.source))
-      (is_read (range_given Port (text "--sport") given) sp told.source_port r.source_port parts.source_port))
-      (is_read (range_given Address (text "-d") given) d told.destination r.destination parts.destination))
-      (is_read (range_given Port (text "--dport") given) dp told.destination_port r.destination_port parts.destination_port))
-      missing
+pub all_parts : {given : List Given} {action : Action} {ranges : Ranges} → target_given (words_at (text "-j") given) ≡ good action
+    → Some ranges ≡ ranges_told (ranges_read given) → known given ≡ true → stand given ≡ true → Parts given (rule_of action ranges)
+all_parts {given = given} {ranges = ranges} target told all_known all_stand =
+    let read : AllRead given ranges = rw (told_is (ranges_read given) ranges told) at (all_read given) in
+    record {
+      all_known = all_known;
+      target = target;
+      protocol = read.protocol;
+      source = read.source;
+      source_port = read.source_port;
+      destination = read.destination;
+      destination_port = read.destination_port;
+      all_stand = all_stand;
+    }
+
+pub no_parts : (given : List Given) → None ≡ ranges_told (ranges_read given) → (r : Rule) → ¬ Parts given r
+unfolding ranges_read ranges_told
+no_parts given told r parts =
+    let all = rw (parts.protocol, parts.source, parts.source_port, parts.destination, parts.destination_port) at told in
+    absurd (cc)

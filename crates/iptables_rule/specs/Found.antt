@@ -1,22 +1,23 @@
 -- What the functions on a rule line tell, beside the definitions of `iptables`: an option among others, a range, a target, a rule as a record.
 -- Assumes nothing.
-use Rattle.std.specs.Prelude.{ℕ, ◌+◌, ◌-◌, ◌≤◌, min, ◌≡◌, Bool, true, false, cond, List, ◌∷◌, length, drop, eqb}
+use Rattle.std.specs.Prelude.{Option as CodeOption, Some, None, Result, Ok, Err, ℕ, ◌+◌, ◌-◌, ◌≤◌, min, ◌≡◌, Bool, cond, List, ◌∷◌, length, drop, eqb}
 use Rattle.policy.specs.Rule.{Range, Rule}
 use Rattle.policy.specs.declared.Action.{Action}
 use Rattle.policy.specs.declared.Action.TheVariants.{Deny}
 use Rattle.deployment.specs.Bytes.{part}
-use Rattle.deployment.specs.Checked.{Checked, good, bad}
+use Rattle.deployment.specs.Checked.{Checked, good, bad, ◌>>=◌}
 use Rattle.deployment.specs.Values.{rule_bytes}
+use Rattle.deployment.specs.declared.Why.{Why}
 use Rattle.deployment.specs.declared.Why.TheVariants.{NotRead}
-use Rattle.catalogue.specs.Answers.{checking}
+use Rattle.lines.specs.Text.{text}
 use Rattle.iptables.specs.Words.{blank, pieces_behind, single, meant, full}
-use Rattle.iptables.specs.Options.{Given, pairs, words_at, place_of}
+use Rattle.iptables.specs.Options.{Given, pairs, words_at, place_of, range_given}
 use Rattle.iptables.specs.declared.Kind.{Kind}
+use Rattle.iptables.specs.declared.Kind.TheVariants.{Protocol, Address, Port}
+use Rattle.iptables_words.specs.Told.{bounds_of}
+use Rattle.iptables_words.specs.declared.Bounds.{Bounds}
 use Rattle.iptables_rule.specs.declared.Found.{Found}
-use Rattle.iptables_rule.specs.declared.Target.{Target}
-use Rattle.iptables_rule.specs.declared.Target.TheVariants as target
-use Rattle.iptables_rule.specs.declared.Bounds.{Bounds}
-use Rattle.iptables_rule.specs.declared.RuleRead.{RuleRead}
+use Rattle.iptables_rule.specs.declared.Ranges.{Ranges}
 
 -- the words behind a position of a line, where a blank stands or the line ends; and the options that they are
 unfoldable pub words_from : ℕ → List ℕ → List (List ℕ)
@@ -57,18 +58,45 @@ range_found kind found line =
     (cond (eqb found.times 2) (bad NotRead)
     (meant kind (word_of found line)))
 
--- a range that is read, or not
-unfoldable pub bounds_told : Checked Range → Bounds
-bounds_told (good range) = record { read = true; low = range.low; high = range.high }
-bounds_told (bad why) = record { read = false; low = 0; high = 0 }
-
 abbrev pub range_of : Bounds → Range
 range_of bounds = record { low = bounds.low; high = bounds.high }
 
+-- the ranges of all options, if each is read
+unfoldable pub ranges_read : List Given → Checked Ranges
+ranges_read given = do
+  protocol ← range_given Protocol (text "-p") given
+  source ← range_given Address (text "-s") given
+  source_port ← range_given Port (text "--sport") given
+  destination ← range_given Address (text "-d") given
+  destination_port ← range_given Port (text "--dport") given
+  good (record {
+    protocol = bounds_of protocol;
+    source = bounds_of source;
+    source_port = bounds_of source_port;
+    destination = bounds_of destination;
+    destination_port = bounds_of destination_port;
+  })
+
+unfoldable pub ranges_told : Checked Ranges → CodeOption Ranges
+ranges_told (good ranges) = Some ranges
+ranges_told (bad why) = None
+
+-- the rule of an action and ranges
+abbrev pub rule_of : Action → Ranges → Rule
+rule_of action ranges =
+    record {
+      action = action;
+      protocol = range_of ranges.protocol;
+      source = range_of ranges.source;
+      source_port = range_of ranges.source_port;
+      destination = range_of ranges.destination;
+      destination_port = range_of ranges.destination_port;
+    }
+
 -- a target that is read, or not
-unfoldable pub target_told : Checked Action → Target
-target_told (good action) = target.Is action
-target_told (bad why) = target.Not
+unfoldable pub target_told : Checked Action → CodeOption Action
+target_told (good action) = Some action
+target_told (bad why) = None
 
 -- no rule; its record stands where none is read
 unfoldable pub no_rule : Rule
@@ -82,10 +110,7 @@ no_rule =
       destination_port = single 0;
     }
 
-unfoldable pub rule_or : Checked Rule → Rule
-rule_or (good rule) = rule
-rule_or (bad why) = no_rule
-
 -- a rule that is read, as its record, or why not
-unfoldable pub rule_read_told : Checked Rule → RuleRead
-rule_read_told read = record { checking = checking read; bytes = rule_bytes (rule_or read) }
+unfoldable pub rule_read_told : Checked Rule → Result (List ℕ) Why
+rule_read_told (good rule) = Ok (rule_bytes rule)
+rule_read_told (bad why) = Err why

@@ -4,7 +4,6 @@
 
 ghost use Rattle.std.specs.Prelude.{◌≡◌, ◌&&◌, ◌∷◌, ◌++◌, ◌≤◌, ◌<◌, length};
 ghost use Rattle.policy.specs.Lists.{all};
-ghost use Rattle.deployment.specs.Checked.{bad};
 ghost use Rattle.deployment.specs.Values.{range_bytes, rule_bytes, rising};
 ghost use Rattle.iptables.specs.Options.{
   even,
@@ -28,20 +27,19 @@ ghost use Rattle.iptables_rule.specs.Found.{
   word_of,
   OptionFound,
   range_found,
-  bounds_told,
+  ranges_read,
+  ranges_told,
   target_told,
   range_of,
+  rule_of,
   no_rule,
   rule_read_told,
 };
 
-use catalogue::Checking;
-use catalogue::rule::same_bytes;
 use deployment::Why;
-use flows::action_byte;
 use format::RULE_BYTES;
 use iptables::Kind;
-use iptables_words::{Ranged, cut, full, meant};
+use iptables_words::{Bounds, cut, full, meant};
 use policy::Action;
 
 const BLANK: u8 = b' ';
@@ -55,26 +53,14 @@ struct Found {
     end: usize,
 }
 
-// "`-j ACCEPT` or `-j DROP`", or that the word is none of them.
+// The ranges of a rule.
 #[derive(Clone, Copy)]
-pub enum Target {
-    Is(Action),
-    Not,
-}
-
-// A low and a high, if they are read.
-#[derive(Clone, Copy)]
-struct Bounds {
-    read: bool,
-    low: usize,
-    high: usize,
-}
-
-// Whether a rule line is read, and the record of its rule.
-#[derive(Clone, Copy)]
-pub struct RuleRead {
-    pub checking: Checking,
-    pub bytes: [u8; RULE_BYTES],
+struct Ranges {
+    protocol: Bounds,
+    source: Bounds,
+    source_port: Bounds,
+    destination: Bounds,
+    destination_port: Bounds,
 }
 
 // What was found of an option, with one option more: the one looked for, with its word from `start` to `end`, or another.
@@ -120,13 +106,14 @@ fn option(line: &[u8], at: usize, name: &[u8]) -> Found
         end: 0,
     };
     let mut end = at;
+    // Kept: each turn goes on behind two words, and no iterator parts a line so.
     while end < line.len() {
         let middle = cut(line, end + 1, BLANK);
         if middle == line.len() {
             return found;
         }
         let stop = cut(line, middle + 1, BLANK);
-        let is = same_bytes(&line[end + 1..middle], name);
+        let is = &line[end + 1..middle] == name;
         found = with_pair(found, is, middle + 1, stop);
         end = stop;
     }
@@ -137,13 +124,13 @@ fn option(line: &[u8], at: usize, name: &[u8]) -> Found
 fn is_option(name: &[u8]) -> bool
     ensures { result ≡ is_option name.now }
 {
-    same_bytes(name, b"-s")
-        || same_bytes(name, b"-d")
-        || same_bytes(name, b"-p")
-        || same_bytes(name, b"--sport")
-        || same_bytes(name, b"--dport")
-        || same_bytes(name, b"-m")
-        || same_bytes(name, b"-j")
+    name == b"-s".as_slice()
+        || name == b"-d".as_slice()
+        || name == b"-p".as_slice()
+        || name == b"--sport".as_slice()
+        || name == b"--dport".as_slice()
+        || name == b"-m".as_slice()
+        || name == b"-j".as_slice()
 }
 
 // Whether each option behind a position is one that is read, and has its word.
@@ -151,6 +138,7 @@ fn options_known(line: &[u8], at: usize) -> bool
     ensures { result ≡ (even (words_from at line.now) && all (λ g. is_option g.option) (given_from at line.now)) }
 {
     let mut end = at;
+    // Kept: each turn goes on behind two words, and no iterator parts a line so.
     while end < line.len() {
         let middle = cut(line, end + 1, BLANK);
         if middle == line.len() || !is_option(&line[end + 1..middle]) {
@@ -166,64 +154,48 @@ fn word_of<'a>(line: &'a [u8], found: Found) -> &'a [u8]
     requires { (found.start ≤ found.end) × (found.end ≤ length line.now) }
     ensures { result.now ≡ word_of found line.now }
 {
-    let start = found.start;
-    let end = found.end;
-    &line[start..end]
+    &line[found.start..found.end]
 }
 
 // What an option's range is: the full one where it isn't given, and nothing where it is given twice.
-fn ranged(line: &[u8], found: Found, kind: Kind) -> Ranged
+fn ranged(line: &[u8], found: Found, kind: Kind) -> Option<Bounds>
     requires { (found.start ≤ found.end) × (found.end ≤ length line.now) }
     ensures { result ≡ range_told (range_found kind found line.now) }
 {
-    if found.times == 0 {
-        return full(kind);
+    match found.times {
+        0 => Some(full(kind)),
+        2 => None,
+        _ => meant(kind, word_of(line, found)),
     }
-    if found.times == 2 {
-        return Ranged::Not;
-    }
-    meant(kind, word_of(line, found))
 }
 
 // The range of an option that is given at most once.
-fn range_given(line: &[u8], at: usize, name: &[u8], kind: Kind) -> Bounds
-    ensures { result ≡ bounds_told (range_given kind name.now (given_from at line.now)) }
+fn range_given(line: &[u8], at: usize, name: &[u8], kind: Kind) -> Option<Bounds>
+    ensures { result ≡ range_told (range_given kind name.now (given_from at line.now)) }
 {
-    let range = ranged(line, option(line, at, name), kind);
-    let Ranged::Is(low, high) = range else {
-        return Bounds {
-            read: false,
-            low: 0,
-            high: 0,
-        };
-    };
-    Bounds {
-        read: true,
-        low,
-        high,
-    }
+    ranged(line, option(line, at, name), kind)
 }
 
 // A target, or the policy of a chain.
-pub fn target_of(word: &[u8]) -> Target
+pub fn target_of(word: &[u8]) -> Option<Action>
     ensures { result ≡ target_told (target_of word.now) }
 {
-    if same_bytes(word, b"ACCEPT") {
-        return Target::Is(Action::Permit);
+    if word == b"ACCEPT".as_slice() {
+        return Some(Action::Permit);
     }
-    if same_bytes(word, b"DROP") {
-        return Target::Is(Action::Deny);
+    if word == b"DROP".as_slice() {
+        return Some(Action::Deny);
     }
-    Target::Not
+    None
 }
 
 // "Exactly one `-j ACCEPT` or `-j DROP`"
-fn target_given(line: &[u8], at: usize) -> Target
+fn target_given(line: &[u8], at: usize) -> Option<Action>
     ensures { result ≡ target_told (target_given (words_at (text "-j") (given_from at line.now))) }
 {
     let found = option(line, at, b"-j");
     if found.times != 1 {
-        return Target::Not;
+        return None;
     }
     target_of(word_of(line, found))
 }
@@ -233,7 +205,7 @@ fn protocol_is(line: &[u8], at: usize, word: &[u8]) -> bool
     ensures { result ≡ protocol_is word.now (given_from at line.now) }
 {
     let found = option(line, at, b"-p");
-    found.times != 0 && same_bytes(word_of(line, found), word)
+    found.times != 0 && word_of(line, found) == word
 }
 
 // Whether an option stands behind `-p`.
@@ -267,102 +239,66 @@ fn module_fits(line: &[u8], at: usize) -> bool
     let word = word_of(line, found);
     is_behind(line, at, b"-m")
         && protocol_is(line, at, word)
-        && (same_bytes(word, b"tcp") || same_bytes(word, b"udp"))
+        && (word == b"tcp".as_slice() || word == b"udp".as_slice())
 }
 
 // A byte, and behind it the ranges of a rule, "low, high" of each.
-fn with_ranges(
-    first: u8,
-    protocol: Bounds,
-    source: Bounds,
-    source_port: Bounds,
-    destination: Bounds,
-    destination_port: Bounds,
-) -> [u8; RULE_BYTES]
-    ensures { result ≡ first ∷ (range_bytes 1 (range_of protocol) ++ (range_bytes 4 (range_of source) ++ (range_bytes 2 (range_of source_port)
-        ++ (range_bytes 4 (range_of destination) ++ range_bytes 2 (range_of destination_port))))) }
+fn with_ranges(first: u8, ranges: Ranges) -> [u8; RULE_BYTES]
+    ensures { result ≡ first ∷ (range_bytes 1 (range_of ranges.protocol) ++ (range_bytes 4 (range_of ranges.source) ++ (range_bytes 2 (range_of ranges.source_port)
+        ++ (range_bytes 4 (range_of ranges.destination) ++ range_bytes 2 (range_of ranges.destination_port))))) }
 {
+    // Kept: with parts copied in from a helper's bytes its proof didn't close.
     [
         first,
-        (protocol.low % 256) as u8,
-        (protocol.high % 256) as u8,
-        (source.low / 256 / 256 / 256 % 256) as u8,
-        (source.low / 256 / 256 % 256) as u8,
-        (source.low / 256 % 256) as u8,
-        (source.low % 256) as u8,
-        (source.high / 256 / 256 / 256 % 256) as u8,
-        (source.high / 256 / 256 % 256) as u8,
-        (source.high / 256 % 256) as u8,
-        (source.high % 256) as u8,
-        (source_port.low / 256 % 256) as u8,
-        (source_port.low % 256) as u8,
-        (source_port.high / 256 % 256) as u8,
-        (source_port.high % 256) as u8,
-        (destination.low / 256 / 256 / 256 % 256) as u8,
-        (destination.low / 256 / 256 % 256) as u8,
-        (destination.low / 256 % 256) as u8,
-        (destination.low % 256) as u8,
-        (destination.high / 256 / 256 / 256 % 256) as u8,
-        (destination.high / 256 / 256 % 256) as u8,
-        (destination.high / 256 % 256) as u8,
-        (destination.high % 256) as u8,
-        (destination_port.low / 256 % 256) as u8,
-        (destination_port.low % 256) as u8,
-        (destination_port.high / 256 % 256) as u8,
-        (destination_port.high % 256) as u8,
+        (ranges.protocol.low % 256) as u8,
+        (ranges.protocol.high % 256) as u8,
+        (ranges.source.low / 256 / 256 / 256 % 256) as u8,
+        (ranges.source.low / 256 / 256 % 256) as u8,
+        (ranges.source.low / 256 % 256) as u8,
+        (ranges.source.low % 256) as u8,
+        (ranges.source.high / 256 / 256 / 256 % 256) as u8,
+        (ranges.source.high / 256 / 256 % 256) as u8,
+        (ranges.source.high / 256 % 256) as u8,
+        (ranges.source.high % 256) as u8,
+        (ranges.source_port.low / 256 % 256) as u8,
+        (ranges.source_port.low % 256) as u8,
+        (ranges.source_port.high / 256 % 256) as u8,
+        (ranges.source_port.high % 256) as u8,
+        (ranges.destination.low / 256 / 256 / 256 % 256) as u8,
+        (ranges.destination.low / 256 / 256 % 256) as u8,
+        (ranges.destination.low / 256 % 256) as u8,
+        (ranges.destination.low % 256) as u8,
+        (ranges.destination.high / 256 / 256 / 256 % 256) as u8,
+        (ranges.destination.high / 256 / 256 % 256) as u8,
+        (ranges.destination.high / 256 % 256) as u8,
+        (ranges.destination.high % 256) as u8,
+        (ranges.destination_port.low / 256 % 256) as u8,
+        (ranges.destination_port.low % 256) as u8,
+        (ranges.destination_port.high / 256 % 256) as u8,
+        (ranges.destination_port.high % 256) as u8,
     ]
 }
 
 // The record of a rule: "action (0 deny, 1 permit), protocol low, high; source low, high; .."
-fn record_of(
-    action: Action,
-    protocol: Bounds,
-    source: Bounds,
-    source_port: Bounds,
-    destination: Bounds,
-    destination_port: Bounds,
-) -> [u8; RULE_BYTES]
-    ensures { result
-        ≡ rule_bytes
-        (record {
-          action = action;
-          protocol = range_of protocol;
-          source = range_of source;
-          source_port = range_of source_port;
-          destination = range_of destination;
-          destination_port = range_of destination_port;
-        }) }
+fn record_of(action: Action, ranges: Ranges) -> [u8; RULE_BYTES]
+    ensures { result ≡ rule_bytes (rule_of action ranges) }
 {
-    with_ranges(
-        action_byte(action),
-        protocol,
-        source,
-        source_port,
-        destination,
-        destination_port,
-    )
+    with_ranges(action.into(), ranges)
 }
 
 // The record of no rule: it stands where none is read.
 pub fn no_record() -> [u8; RULE_BYTES]
     ensures { result ≡ rule_bytes no_rule }
 {
-    let none = Bounds {
-        read: false,
-        low: 0,
-        high: 0,
+    let none = Bounds { low: 0, high: 0 };
+    let ranges = Ranges {
+        protocol: none,
+        source: none,
+        source_port: none,
+        destination: none,
+        destination_port: none,
     };
-    record_of(Action::Deny, none, none, none, none, none)
-}
-
-// A rule line that isn't read, and why.
-fn unread(why: Why) -> RuleRead
-    ensures { result ≡ rule_read_told (bad why) }
-{
-    RuleRead {
-        checking: Checking::Bad(why),
-        bytes: no_record(),
-    }
+    record_of(Action::Deny, ranges)
 }
 
 // Whether the options that need one stand behind `-p`.
@@ -375,11 +311,22 @@ fn options_stand(line: &[u8], at: usize) -> bool
     port_fits(line, at, b"--sport") && port_fits(line, at, b"--dport") && module_fits(line, at)
 }
 
-// Whether all ranges are read.
-fn all_read(protocol: Bounds, source: Bounds, from: Bounds, destination: Bounds, to: Bounds) -> bool
-    ensures { result ≡ (protocol.read && source.read && from.read && destination.read && to.read) }
+// The ranges of all options, if each is read.
+fn ranges_given(line: &[u8], at: usize) -> Option<Ranges>
+    ensures { result ≡ ranges_told (ranges_read (given_from at line.now)) }
 {
-    protocol.read && source.read && from.read && destination.read && to.read
+    let protocol = range_given(line, at, b"-p", Kind::Protocol)?;
+    let source = range_given(line, at, b"-s", Kind::Address)?;
+    let source_port = range_given(line, at, b"--sport", Kind::Port)?;
+    let destination = range_given(line, at, b"-d", Kind::Address)?;
+    let destination_port = range_given(line, at, b"--dport", Kind::Port)?;
+    Some(Ranges {
+        protocol,
+        source,
+        source_port,
+        destination,
+        destination_port,
+    })
 }
 
 // 58: "a low above its high"
@@ -390,29 +337,20 @@ fn ports_rise(from: Bounds, to: Bounds) -> bool
 }
 
 // The rule of the options behind a position: 57, then 58.
-pub fn rule_of(line: &[u8], at: usize) -> RuleRead
+pub fn rule_of(line: &[u8], at: usize) -> Result<[u8; RULE_BYTES], Why>
     ensures { result ≡ rule_read_told (rule_read (words_from at line.now)) }
 {
     if !options_known(line, at) || !options_stand(line, at) {
-        return unread(Why::NotRead);
+        return Err(Why::NotRead);
     }
-    let target = target_given(line, at);
-    let Target::Is(action) = target else {
-        return unread(Why::NotRead);
+    let Some(action) = target_given(line, at) else {
+        return Err(Why::NotRead);
     };
-    let protocol = range_given(line, at, b"-p", Kind::Protocol);
-    let source = range_given(line, at, b"-s", Kind::Address);
-    let from = range_given(line, at, b"--sport", Kind::Port);
-    let destination = range_given(line, at, b"-d", Kind::Address);
-    let to = range_given(line, at, b"--dport", Kind::Port);
-    if !all_read(protocol, source, from, destination, to) {
-        return unread(Why::NotRead);
+    let Some(ranges) = ranges_given(line, at) else {
+        return Err(Why::NotRead);
+    };
+    if !ports_rise(ranges.source_port, ranges.destination_port) {
+        return Err(Why::LowAbove);
     }
-    if !ports_rise(from, to) {
-        return unread(Why::LowAbove);
-    }
-    RuleRead {
-        checking: Checking::Good,
-        bytes: record_of(action, protocol, source, from, destination, to),
-    }
+    Ok(record_of(action, ranges))
 }

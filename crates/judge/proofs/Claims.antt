@@ -19,7 +19,7 @@ use Rattle.deployment.proofs.Numbers.{why_apart, refusal_numbers_differ}
 use Rattle.judge.specs.Answers.{judged_numbers}
 use Rattle.judge.specs.Claims.{Row, breaks, elsewhere, unordered, not_full, safe}
 use Rattle.judge.specs.Claims.{JudgedNumbersDiffer, VerdictByRow, VerdictNoRefusal}
-use Rattle.judge.specs.declared.Judged.TheVariants.{Said, Turned}
+use Rattle.std.specs.Prelude.{Ok, Err}
 
 -- The answers are told apart: no verdict has a refusal's number.
 pub verdict_no_refusal : VerdictNoRefusal
@@ -30,10 +30,10 @@ verdict_no_refusal v refusal e =
 
 pub judged_numbers_differ : JudgedNumbersDiffer
 unfolding judged_numbers
-judged_numbers_differ (Said v) (Said w) e = ap Said (verdict_numbers_differ v w e)
-judged_numbers_differ (Said v) (Turned s) e = absurd (verdict_no_refusal v s e)
-judged_numbers_differ (Turned r) (Said w) e = absurd (verdict_no_refusal w r (sym e))
-judged_numbers_differ (Turned r) (Turned s) e = ap Turned (refusal_numbers_differ r s e)
+judged_numbers_differ (Ok v) (Ok w) e = ap Ok (verdict_numbers_differ v w e)
+judged_numbers_differ (Ok v) (Err s) e = absurd (verdict_no_refusal v s e)
+judged_numbers_differ (Err r) (Ok w) e = absurd (verdict_no_refusal w r (sym e))
+judged_numbers_differ (Err r) (Err s) e = ap Err (refusal_numbers_differ r s e)
 
 -- A verdict's numbers and their row.
 module _ (size : ℕ) (initial target : List ℕ) (script : List Command) (first : Distinct initial) (last : Distinct target) where

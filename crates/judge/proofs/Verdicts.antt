@@ -25,7 +25,7 @@ use Rattle.policy.proofs.Counting.{inside_length}
 use Rattle.policy.proofs.Judge.{ordered_found}
 use Rattle.deployment.specs.Values.{script_of}
 use Rattle.deployment.specs.Commands.{command_count, command_at, decoded}
-use Rattle.deployment.specs.declared.Decoded.TheVariants.{Is}
+use Rattle.std.specs.Prelude.{Some}
 use Rattle.deployment.proofs.Values.{by_option}
 use Rattle.places.specs.Places.{renumbered}
 use Rattle.places.proofs.Says.{says_numbered}
@@ -138,7 +138,7 @@ module _ (initial target : List ℕ) (size : ℕ) (value : List ℕ) (readable :
 
   module _ {whole : Verdict} (v : Verdict) (k : ℕ) (l : List ℕ) (left : whole ≡ rest initial target size v k l (drop k script)) where
     -- one more command, that passes or fails
-    module _ (c : Command) (h : k < command_count value) (is : Is c ≡ decoded (command_at value k)) where
+    module _ (c : Command) (h : k < command_count value) (is : Some c ≡ decoded (command_at value k)) where
       next_command : whole ≡ rest initial target size v k l (c ∷ drop (suc k) script)
       next_command =
           let (d, at, others) = command_next value readable k h in

@@ -1,7 +1,7 @@
 -- What a customer buys of the judge: the table of verdicts, for two policies that name no rule twice. Each claim is a statement;
 -- proofs/Claims.antt has, for each, a proof of the same name in small letters with hyphens; crate `entries` says it of each entry. Assumes
 -- nothing.
-use Rattle.std.specs.Prelude.{ℕ, ◌≡◌, ◌↔◌, ◌≢◌, List, [], ◌∷◌, length}
+use Rattle.std.specs.Prelude.{Result, ℕ, ◌≡◌, ◌↔◌, ◌≢◌, List, [], ◌∷◌, length}
 use Rattle.policy.specs.Judge.{verdict, verdict_numbers}
 use Rattle.policy.specs.Properties.{Distinct, Full, Leads, After}
 use Rattle.policy.specs.Claims.{BreaksAt, FirstUnordered, AllOrdered}
@@ -10,11 +10,10 @@ use Rattle.policy.specs.declared.Verdict.{Verdict}
 use Rattle.deployment.specs.Checked.{refusal_numbers}
 use Rattle.deployment.specs.declared.Refusal.{Refusal}
 use Rattle.judge.specs.Answers.{judged_numbers}
-use Rattle.judge.specs.declared.Judged.{Judged}
 
 -- No two answers share their number and values.
 abbrev pub JudgedNumbersDiffer : Type 0
-JudgedNumbersDiffer = (a b : Judged) → judged_numbers a ≡ judged_numbers b → a ≡ b
+JudgedNumbersDiffer = (a b : Result Verdict Refusal) → judged_numbers a ≡ judged_numbers b → a ≡ b
 
 -- 01, "Verdict", "Given exactly when": the rows of the table, each with its number and values; `size` is the catalogue's count of rules
 pub data Row (size : ℕ) (initial target : List ℕ) (script : List Command) : List ℕ → Type 0 where

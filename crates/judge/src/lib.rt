@@ -14,19 +14,10 @@ ghost use Rattle.ordering.specs.Fronts.{Judging};
 ghost use Rattle.judge.specs.SoFar.{noted};
 
 use commands::{command_at, commands};
-use deployment::{Decoded, Refusal};
 use format::{list_of, listed, number_at};
 use ordering::{first_unsupported, is_full, is_ordered};
 use policy::Verdict;
 use replay::Replaying;
-use running::Refusing;
-
-// What the judge answers: the verdict, or why the input is turned away.
-#[derive(Clone, Copy)]
-pub enum Judged {
-    Said(Verdict),
-    Turned(Refusal),
-}
 
 // The verdict so far and one more list, the one after step `at`: the first list that isn't ordered stays, else one that isn't full.
 fn note(
@@ -72,13 +63,10 @@ fn ends_at(state: Replaying, policy: &[u8]) -> bool
     if n != listed(policy) {
         return false;
     }
-    let rules = state.list.rules;
-    let mut k = 0;
-    while k < n {
-        if rules[k] != number_at(policy, k) {
+    for (k, r) in state.list.rules[..n].iter().enumerate() {
+        if *r != number_at(policy, k) {
             return false;
         }
-        k += 1;
     }
     true
 }
@@ -92,19 +80,16 @@ pub fn verdict_of(size: usize, initial: &[u8], target: &[u8], script: &[u8]) -> 
     let count = commands(script);
     let mut state = Replaying::start(list_of(initial));
     let mut found = note_state(Verdict::Safe, 0, state, initial, target);
-    let mut k = 0;
-    while k < count {
-        let Decoded::Is(c) = command_at(script, k) else {
+    for k in 0..count {
+        let Some(c) = command_at(script, k) else {
             return found;
         };
-        k += 1;
         let s = state.step(size, c);
-        let refusal = s.refusal;
-        if let Refusing::Failed(fault) = refusal {
-            return Verdict::Broken(fault, k);
+        if let Some(fault) = s.refusal {
+            return Verdict::Broken(fault, k + 1);
         }
         state = s.state;
-        found = note_state(found, k, state, initial, target);
+        found = note_state(found, k + 1, state, initial, target);
     }
     if !ends_at(state, target) {
         return Verdict::Elsewhere(count);

@@ -16,8 +16,8 @@ use Rattle.deployment.proofs.Values.{length_numbers}
 use Rattle.deployment.proofs.Fields.{joined_snoc, map_snoc}
 use Rattle.deployment.specs.FieldValues.{Stored, left_by}
 use Rattle.deployment.proofs.Storing.{stored_more, stored_fills}
-use Rattle.last_list.specs.Last.{replay_left}
-use Rattle.last_list.specs.declared.Ran.TheVariants as ran
+use Rattle.std.specs.Prelude.{Ok}
+use Rattle.last_list.specs.Last.{turned, replay_left}
 
 numbers_snoc : (l : List ℕ) (n : ℕ) → numbers_bytes (l ++ (n ∷ [])) ≡ numbers_bytes l ++ bytes_of 2 n
 unfolding numbers_bytes
@@ -28,11 +28,11 @@ list_bytes list counted = length_numbers list ∙ ap (λ (n : ℕ). 2 * n) (sym 
 
 -- Without room nothing is written, and 13 is told at the bytes needed.
 pub no_room : (place list : List ℕ) {count : ℕ} → count ≡ length list → length place < 2 * count
-    → left_by (ran.Turned (record { why = Room; at = 2 * count })) place ≡ replay_left place (ended list)
+    → left_by (turned (record { why = Room; at = 2 * count })) place ≡ replay_left place (ended list)
 unfolding replay_left
 no_room place list {count} counted small =
     let output = numbers_bytes list in
-    lent.no_room ran.Turned (ran.Ended (length output)) output place (2 * count) (list_bytes list counted) small
+    lent.no_room turned (Ok (length output)) output place (2 * count) (list_bytes list counted) small
 
 -- Nothing is written at first, then one number more, and in the end all of the list.
 module _ (place : List ℕ) (rules : List ℕ) where
@@ -52,9 +52,9 @@ module _ (place : List ℕ) (rules : List ℕ) where
       (stored_more so_far (record { place = stored ∙ rw is; end = refl }))
 
   pub all_put : (list : List ℕ) {now : List ℕ} (k : ℕ) {count : ℕ} → count ≡ length list → take k rules ≡ list → 2 * count ≤ length place → Put now k
-      → left_by (ran.Ended (2 * count)) now ≡ replay_left place (ended list)
+      → left_by (Ok (2 * count)) now ≡ replay_left place (ended list)
   unfolding replay_left
   all_put list k {count = count} counted is room put =
       let long = list_bytes list counted in
       let full = stored_fills (rw is at put) (omega (arith, long)) in
-      rw long (rw long at (lent.with_room ran.Turned (ran.Ended (2 * count)) (numbers_bytes list) place (2 * count) long room full))
+      rw long (rw long at (lent.with_room turned (Ok (2 * count)) (numbers_bytes list) place (2 * count) long room full))

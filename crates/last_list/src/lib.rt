@@ -8,22 +8,12 @@ ghost use Rattle.policy.specs.Replay.{ended};
 ghost use Rattle.running.specs.Running.{view};
 ghost use Rattle.deployment.specs.Bytes.{bytes_of};
 ghost use Rattle.deployment.specs.FieldValues.{left_by};
-ghost use Rattle.last_list.specs.Last.{replay_left, replayed_over, replayed_at_zero};
+ghost use Rattle.last_list.specs.Last.{replay_left, replayed_over, replayed_at_zero, at_zero};
 
 use deployment::{Refusal, Why};
 use format::store;
-use policy::Fault;
-use replay::{Ending, replay};
+use replay::{Stop, replay};
 use running::Running;
-
-// How a replay whose last list is written ends: the bytes of that list; the fault of a command that fails and its step; or why it is turned
-// away.
-#[derive(Clone, Copy)]
-pub enum Ran {
-    Ended(usize),
-    Broken(Fault, usize),
-    Turned(Refusal),
-}
 
 // "two-byte rule numbers"
 const NUMBER_BYTES: usize = 2;
@@ -36,37 +26,44 @@ fn number_bytes(n: u16) -> [u8; 2]
 }
 
 // The list as a list value, in the first bytes of the place, where it has room there.
-fn put_list(place: &mut [u8], list: Running) -> Ran
+fn put_list(place: &mut [u8], list: Running) -> Result<usize, Stop<Refusal>>
     ensures { left_by result place.new ≡ replay_left place.old (ended (view list)) }
 {
     let count = list.count();
     let needed = NUMBER_BYTES * count;
     if place.len() < needed {
-        return Ran::Turned(Refusal {
+        return Err(Stop::Turned(Refusal {
             why: Why::Room,
             at: needed,
-        });
+        }));
     }
-    let rules = list.rules;
-    let mut k = 0;
-    while k < count {
-        let bytes = number_bytes(rules[k]);
-        store(place, NUMBER_BYTES * k, &bytes);
-        k += 1;
+    for (k, r) in list.rules[..count].iter().enumerate() {
+        store(place, NUMBER_BYTES * k, &number_bytes(*r));
     }
-    Ran::Ended(needed)
+    Ok(needed)
 }
 
-// Replays a script value from a policy value, for a catalogue of `size` rules; the last list fills the first bytes of the place.
-pub fn replay_into(size: usize, initial: &[u8], script: &[u8], place: &mut [u8]) -> Ran
+// What is turned away of values stands at position 0.
+fn at_zero(stop: Stop<Why>) -> Stop<Refusal>
+    ensures { result ≡ at_zero stop }
+{
+    match stop {
+        Stop::Broken(fault, step) => Stop::Broken(fault, step),
+        Stop::Turned(why) => Stop::Turned(why.into()),
+    }
+}
+
+// Replays a script value from a policy value, for a catalogue of `size` rules; the last list fills the first bytes of the place. How it ends otherwise:
+// the fault of a command that fails and its step, or why it is turned away.
+pub fn replay_into(
+    size: usize,
+    initial: &[u8],
+    script: &[u8],
+    place: &mut [u8],
+) -> Result<usize, Stop<Refusal>>
     ensures { left_by result place.new
         ≡ replayed_at_zero (replayed_over (min size most_rules) initial.now script.now) place.old }
 {
-    let r = replay(size, initial, script);
-    let ending = r.ending;
-    match ending {
-        Ending::Turned(why) => Ran::Turned(Refusal { why, at: 0 }),
-        Ending::Broken(fault, step) => Ran::Broken(fault, step),
-        Ending::Ended => put_list(place, r.list),
-    }
+    let list = replay(size, initial, script).map_err(at_zero)?;
+    put_list(place, list)
 }

@@ -43,7 +43,7 @@ pub one_named : (κ : _) (a : _) (r s : ℕ) (e f : _) → put-named.Post κ a r
 one_named κ a r s e f p q fits = same_put p q fits
 
 pub one_phrase : (κ : _) (a : _) (r s : Phrase) (e f : _) → phrase-of.Post κ a r e → phrase-of.Post κ a s f → words_in r ≡ words_in s
-one_phrase κ a r s e f p q = p.holds ∙ sym q.holds
+one_phrase κ a r s e f p q = p ∙ sym q
 
 pub one_command : (κ : _) (a : _) (r s : ℕ) (e f : _) → put-command.Post κ a r e → put-command.Post κ a s f
     → a.1.0 + length (command_text a.1.1.0 (said a.1.1.0 a.1.1.1.0)) < 2 ^ 64 → (r ≡ s) × (e.0.now ≡ f.0.now)

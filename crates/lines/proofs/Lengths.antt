@@ -1,6 +1,6 @@
 -- How long lines are: numbers of 64 bits have at most twenty digits, those of two bytes five, so a line of a plan has at most 15 bytes in a
 -- script of type 1 and 21 in one of type 2, and a plan's head has 64. Assumes nothing.
-use Rattle.std.proofs.Common.{◌≡◌, ℕ, zero, suc, ◌+◌, ◌*◌, ◌^◌, ◌<◌, ◌≤◌, cond, eqb, List, [], ◌∷◌, ◌++◌, length, get_or, take, refl, ap, mul-le-mul_left, mul-suc, arith, length-append}
+use Rattle.std.proofs.Common.{◌≡◌, ℕ, suc, ◌+◌, ◌*◌, ◌^◌, ◌<◌, ◌≤◌, cond, eqb, List, [], ◌∷◌, ◌++◌, length, get_or, refl, ap, mul-le-mul_left, mul-suc, arith, length-append}
 use mathlib.Core.List.{Memᴰ}
 use Rattle.policy.specs.Command.{coded}
 use Rattle.policy.specs.Properties.{Allows}
@@ -14,6 +14,7 @@ use Rattle.deployment.specs.Properties.{AreBytes, Scripted, fields_bytes}
 use Rattle.deployment.specs.Values.{Script}
 use Rattle.policy.specs.Judge.{verdict_numbers}
 use Rattle.policy.specs.declared.Verdict.{Verdict}
+use Rattle.policy.specs.declared.Verdict.TheVariants.{Broken, Elsewhere, Unordered, NotFull, Safe}
 use Rattle.deployment.specs.declared.Refusal.{Refusal}
 use Rattle.policy.proofs.Types.{script_types}
 use Rattle.deployment.proofs.Numbers.{why_small}
@@ -40,12 +41,6 @@ unfolding spaced_all
 none_yet = omega arith
 
 -- any number of them
-pub take_small : {most : ℕ} (n : ℕ) (l : List ℕ) → ((i : ℕ) → get_or l i 0 < suc most) → (i : ℕ) → get_or (take n l) i 0 < suc most
-take_small zero l small i = omega arith
-take_small (suc n) [] small i = small i
-take_small (suc n) (x ∷ l) small zero = small 0
-take_small (suc n) (x ∷ l) small (suc i) = take_small n l (λ j. small (suc j)) i
-
 pub all_short : (numbers : List ℕ) → ((i : ℕ) → get_or numbers i 0 < 2 ^ 64) → length (spaced_all numbers) ≤ most_number * length numbers
 all_short [] small = none_yet
 all_short (n ∷ numbers) small =
@@ -76,6 +71,14 @@ refused_short r h =
       spaced_short (why_number r.why) (omega (arith, why_small r.why)),
       spaced_short r.at h,
     )
+
+pub few_numbers : (v : Verdict) → length (verdict_numbers v) ≤ 3
+unfolding verdict_numbers
+few_numbers (Broken fault at) = omega arith
+few_numbers (Elsewhere commands) = omega arith
+few_numbers (Unordered at place) = omega arith
+few_numbers NotFull = omega arith
+few_numbers Safe = omega arith
 
 pub numbers_line_short : (numbers : List ℕ) → length (spaced_all numbers) ≤ 63 → length (text "verdict" ++ (spaced_all numbers ++ text "\n")) ≤ 71
 unfolding text

@@ -4,7 +4,7 @@ use Rattle.std.proofs.Common.{◌≡◌, ℕ, suc, ◌+◌, ◌<◌, ◌≤◌, 
 use Rattle.policy.specs.declared.Command.{Command}
 use Rattle.deployment.specs.Values.{script_of}
 use Rattle.deployment.specs.Commands.{command_count, command_at, decoded}
-use Rattle.deployment.specs.declared.Decoded.TheVariants.{Is}
+use Rattle.std.specs.Prelude.{Some}
 use Rattle.values.proofs.Scripts.{decoded_is}
 use Rattle.replay.specs.Answers.{commands_of, Readable}
 use Rattle.replay.proofs.Scripts.{command_next}
@@ -51,7 +51,7 @@ abbrev pub following : ℕ → List ℕ → List ℕ
 following k numbers = spaced_all numbers
 
 -- the k-th command of a script value that is read, and the rest
-pub next_command : (value : List ℕ) → Readable value → (k : ℕ) (c : Command) → k < command_count value → Is c ≡ decoded (command_at value k)
+pub next_command : (value : List ℕ) → Readable value → (k : ℕ) (c : Command) → k < command_count value → Some c ≡ decoded (command_at value k)
     → drop k (commands_of (script_of value)) ≡ c ∷ drop (suc k) (commands_of (script_of value))
 next_command value readable k c h is =
     let (d, at, rest) = command_next value readable k h in

@@ -1,7 +1,7 @@
 -- What the printers need to know: where a text ends, and how long it can be. Assumes nothing.
-use Rattle.std.specs.Prelude.{◌≡◌, ℕ, ◌+◌, ◌*◌, ◌^◌, ◌<◌, ◌≤◌, cond, ◌⊎◌, List, length, take}
-use Rattle.std.proofs.Math.Option.{none, some}
-use Rattle.deployment.specs.FieldValues.{Stored}
+use Rattle.std.specs.Prelude.{◌≡◌, ℕ, ◌+◌, ◌*◌, ◌^◌, ◌<◌, ◌≤◌, ◌⊎◌, List, length}
+use Rattle.std.specs.Borrow.{MutBor}
+use Rattle.deployment.specs.FieldValues.{Stored, lent}
 use Rattle.deployment.specs.Properties.{AreBytes}
 use Rattle.lines.specs.Text.{Words, spaced_all}
 use Rattle.lines.specs.declared.phrases.Phrase.{Phrase}
@@ -16,17 +16,11 @@ pub record Puts (before : List ℕ) (at : ℕ) (bytes after : List ℕ) (next : 
 
 -- the words that a phrase holds
 unfoldable pub words_in : Phrase → Words
-words_in p =
-    record {
-      name = take p.name_bytes p.name;
-      between = cond p.two (some (take p.between_bytes p.between)) none;
-    }
+words_in p = record { name = p.name.now; between = lent p.between }
 
--- a phrase whose words stand inside its arrays
-pub record Holds (p : Phrase) (words : Words) : Type 0 where
-  pub name_inside : p.name_bytes ≤ length p.name
-  pub between_inside : p.between_bytes ≤ length p.between
-  pub holds : words_in p ≡ words
+-- a phrase that holds these words
+abbrev pub Holds : Phrase → Words → Type 0
+Holds p words = words_in p ≡ words
 
 -- numbers put one behind the other, each of at most twenty digits behind a blank
 abbrev pub most_number : ℕ
@@ -40,6 +34,11 @@ pub record PutsAll (before : List ℕ) (at : ℕ) (numbers after : List ℕ) (ne
 pub record Whole (most : ℕ) (before bytes after : List ℕ) (next : ℕ) : Type 0 where
   pub put : Stored before 0 bytes after next
   pub ends : length bytes ≤ most
+
+-- a call that puts this whole text, into any place
+abbrev pub PutsAlways : (MutBor (List ℕ) → ℕ → MutBor (List ℕ) → Type 0) → ℕ → List ℕ → Type 0
+PutsAlways call most text =
+    (before after : MutBor (List ℕ)) (next : ℕ) → IsFile before.now → call before next after → Whole most before.now text after.now next
 
 -- no line of an outcome is longer: `verdict` and three numbers
 abbrev pub most_line : ℕ

@@ -1,66 +1,40 @@
 // Outcomes of one line: a refusal and a verdict, from the start of the place on.
 
-ghost use Rattle.std.specs.Prelude.{◌≡◌, ◌≤◌, length, take};
 ghost use Rattle.policy.specs.Judge.{verdict_numbers};
 ghost use Rattle.lines.specs.Text.{refused_text, verdict_text};
-ghost use Rattle.lines.specs.Printing.{most_line, Whole};
+ghost use Rattle.lines.specs.Printing.{PutsAll, most_line, Whole};
 
 use super::spaced::put_numbers;
 use super::words::{put_named, put_word};
-use deployment::{Refusal, Why};
-use numbers::{fault_number, why_number};
+use deployment::Refusal;
 use policy::Verdict;
 
 // "A bad file gives one line, as `refused 3 at 0`."
 pub fn put_refused(place: &mut [u8], refusal: Refusal) -> usize
     ensures { Whole most_line place.old (refused_text refusal) place.new result }
 {
-    let why = refusal.why;
-    put_why(place, why, refusal.at)
-}
-
-// The same, of the number's case and the position.
-fn put_why(place: &mut [u8], why: Why, at: usize) -> usize
-    ensures { Whole most_line place.old (refused_text (record { why = why; at = at })) place.new result }
-{
-    let number = why_number(why) as usize;
+    let number = u8::from(refusal.why) as usize;
     let mut next = put_named(place, 0, b"refused", number);
-    next = put_named(place, next, b" at", at);
+    next = put_named(place, next, b" at", refusal.at);
     put_word(place, next, b"\n")
 }
 
-// The first `count` of the numbers.
-#[derive(Clone, Copy)]
-struct Values {
-    count: usize,
-    numbers: [usize; 3],
-}
-
 // The number of a verdict and its values.
-fn values_of(v: Verdict) -> Values
-    ensures { (result.count ≤ length result.numbers) × (length result.numbers ≤ 3) × (take result.count result.numbers ≡ verdict_numbers v) }
+fn put_values(place: &mut [u8], at: usize, v: Verdict) -> usize
+    ensures { PutsAll place.old at (verdict_numbers v) place.new result }
 {
     match v {
-        Verdict::Broken(fault, step) => Values {
-            count: 2,
-            numbers: [fault_number(fault) as usize, step, 0],
-        },
-        Verdict::Elsewhere(commands) => Values {
-            count: 2,
-            numbers: [Verdict::ELSEWHERE as usize, commands, 0],
-        },
-        Verdict::Unordered(step, rule) => Values {
-            count: 3,
-            numbers: [Verdict::UNORDERED as usize, step, rule],
-        },
-        Verdict::NotFull => Values {
-            count: 1,
-            numbers: [Verdict::NOT_FULL as usize, 0, 0],
-        },
-        Verdict::Safe => Values {
-            count: 1,
-            numbers: [Verdict::SAFE as usize, 0, 0],
-        },
+        Verdict::Broken(fault, step) => {
+            put_numbers(place, at, &[u8::from(fault) as usize, step])
+        }
+        Verdict::Elsewhere(commands) => {
+            put_numbers(place, at, &[Verdict::ELSEWHERE as usize, commands])
+        }
+        Verdict::Unordered(step, rule) => {
+            put_numbers(place, at, &[Verdict::UNORDERED as usize, step, rule])
+        }
+        Verdict::NotFull => put_numbers(place, at, &[Verdict::NOT_FULL as usize]),
+        Verdict::Safe => put_numbers(place, at, &[Verdict::SAFE as usize]),
     }
 }
 
@@ -68,8 +42,7 @@ fn values_of(v: Verdict) -> Values
 pub fn put_verdict(place: &mut [u8], v: Verdict) -> usize
     ensures { Whole most_line place.old (verdict_text v) place.new result }
 {
-    let values = values_of(v);
     let mut next = put_word(place, 0, b"verdict");
-    next = put_numbers(place, next, &values.numbers, values.count);
+    next = put_values(place, next, v);
     put_word(place, next, b"\n")
 }

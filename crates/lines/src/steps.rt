@@ -9,7 +9,6 @@ use super::phrases::put_command;
 use super::words::{put_number, put_word};
 use commands::{command_at, commands};
 use console::Maker;
-use deployment::Decoded;
 use policy::Command;
 
 // "A line gives the step, the command's name and its numbers."
@@ -27,16 +26,12 @@ pub fn put_lines(place: &mut [u8], at: usize, script: &[u8]) -> usize
     ensures { Readable script.now
         → Puts place.old at (lines_text 1 (commands_of (script_of script.now))) place.new result }
 {
-    let count = commands(script);
     let mut next = at;
-    let mut k = 0;
-    while k < count {
-        let d = command_at(script, k);
-        let Decoded::Is(c) = d else {
+    for k in 0..commands(script) {
+        let Some(c) = command_at(script, k) else {
             return next;
         };
         next = put_line(place, next, k + 1, c);
-        k += 1;
     }
     next
 }

@@ -1,7 +1,7 @@
 // Words and numbers, put into a lent place one behind the other; the answer is always the position behind what was put. What has no room
 // in the place is left out.
 
-ghost use Rattle.std.specs.Prelude.{◌≡◌, ◌+◌, ◌<◌, [], ◌∷◌, ◌++◌};
+ghost use Rattle.std.specs.Prelude.{◌+◌, ◌<◌, [], ◌∷◌, ◌++◌};
 ghost use Rattle.lines.specs.Text.{decimal, spaced};
 ghost use Rattle.lines.specs.Printing.{Puts};
 

@@ -10,15 +10,15 @@ use Rattle.deployment.specs.File.{Reading, accepted, refused, read_to_judge}
 use Rattle.deployment.specs.declared.Refusal.{Refusal}
 use Rattle.replay.specs.Answers.{commands_of}
 use Rattle.entries.specs.Answers.{judged_contents, judged_reading}
-use Rattle.judge.specs.declared.Judged.TheVariants.{Said, Turned}
+use Rattle.std.specs.Prelude.{Ok, Err}
 use Rattle.lines.specs.Text.{refused_text, verdict_text}
 use Rattle.listing.specs.Text.{judge_printed}
 
-pub printed_refusal : (file : List ℕ) (refusal : Refusal) → Turned refusal ≡ judged_reading (read_to_judge file) → judge_printed file ≡ refused_text refusal
+pub printed_refusal : (file : List ℕ) (refusal : Refusal) → Err refusal ≡ judged_reading (read_to_judge file) → judge_printed file ≡ refused_text refusal
 unfolding judge_printed judged_reading judged_contents
 printed_refusal file refusal is = go (read_to_judge file) is
   where
-    go : (reading : Reading) → Turned refusal ≡ judged_reading reading
+    go : (reading : Reading) → Err refusal ≡ judged_reading reading
         → elim reading [
           | accepted c ↦ verdict_text (verdict (length c.catalogue) c.initial c.target (commands_of c.script))
           | refused r ↦ refused_text r
@@ -27,11 +27,11 @@ printed_refusal file refusal is = go (read_to_judge file) is
     go (accepted c) e = absurd (let z : ◌≡◌ {A = ℕ} 0 1 = cc in omega arith)
     go (refused r) e = let same : refusal ≡ r = cc in ap refused_text (sym same)
 
-pub printed_verdict : (file : List ℕ) (v : Verdict) → Said v ≡ judged_reading (read_to_judge file) → judge_printed file ≡ verdict_text v
+pub printed_verdict : (file : List ℕ) (v : Verdict) → Ok v ≡ judged_reading (read_to_judge file) → judge_printed file ≡ verdict_text v
 unfolding judge_printed judged_reading judged_contents
 printed_verdict file v is = go (read_to_judge file) is
   where
-    go : (reading : Reading) → Said v ≡ judged_reading reading
+    go : (reading : Reading) → Ok v ≡ judged_reading reading
         → elim reading [
           | accepted c ↦ verdict_text (verdict (length c.catalogue) c.initial c.target (commands_of c.script))
           | refused r ↦ refused_text r

@@ -23,8 +23,7 @@ use Rattle.plans.specs.Plans.{Made, script_field, plan_of, made_one_of, made_one
 use Rattle.entries.specs.Answers.{planned}
 use Rattle.plans.specs.Claims.{Holds, enough_bytes}
 use Rattle.plans.specs.declared.Plan.{Plan}
-use Rattle.plans.specs.declared.Planned.{Planned}
-use Rattle.plans.specs.declared.Planned.TheVariants.{Done, Turned}
+use Rattle.std.specs.Prelude.{Result, Ok, Err}
 use Rattle.plans.proofs.Claims.{scripted, lists_accepted, plans_few, one_holds, two_holds, room_for_every}
 use Rattle.lines.specs.Text.{block_text, refused_text}
 use Rattle.lines.specs.Printing.{Puts, Whole}
@@ -34,9 +33,9 @@ use Rattle.listing.specs.Text.{plans, plan_block, blocks_text, plan_text, plan_p
 use Rattle.listing.specs.Printing.{most_text, Reads}
 
 -- The block of a plan that was made is that of the script in its field.
-module _ {answer : Planned} {field : List ℕ} {made : Made} (reads : Reads answer field made) (plan : Plan) (is : answer ≡ Done plan) where
+module _ {answer : (Result Plan Refusal)} {field : List ℕ} {made : Made} (reads : Reads answer field made) (plan : Plan) (is : answer ≡ Ok plan) where
   same_plan : reads.plan ≡ plan
-  same_plan = let done : Done reads.plan ≡ Done plan = sym reads.done ∙ is in cc
+  same_plan = let done : Ok reads.plan ≡ Ok plan = sym reads.done ∙ is in cc
 
   pub field_inside : (head_bytes ≤ plan.bytes) × (plan.bytes ≤ length field)
   field_inside = rw (← same_plan) (reads.headed, reads.inside)
@@ -51,9 +50,9 @@ module _ {answer : Planned} {field : List ℕ} {made : Made} (reads : Reads answ
   unfolding commands_of
   block_is kind initial target = rw (value_reads, ← same_plan, reads.keeps)
 
-pub not_turned : {answer : Planned} {field : List ℕ} {made : Made} {refusal : Refusal} → Reads answer field made → answer ≡ Turned refusal → ⊥
+pub not_turned : {answer : (Result Plan Refusal)} {field : List ℕ} {made : Made} {refusal : Refusal} → Reads answer field made → answer ≡ Err refusal → ⊥
 not_turned {refusal = refusal} reads is =
-    let both : Done reads.plan ≡ Turned refusal = sym reads.done ∙ is in
+    let both : Ok reads.plan ≡ Err refusal = sym reads.done ∙ is in
     let z : ◌≡◌ {A = ℕ} 0 1 = cc in
     omega arith
 
@@ -61,29 +60,29 @@ not_turned {refusal = refusal} reads is =
 pub record Prints (c : Contents) (planner : Contents → Made) : Type 0 where
   pub right : Scripted (planner c).script
   pub room : length (script_field (planner c)) ≤ enough_bytes
-  pub held : (place : List ℕ) → (planned planner (accepted c) place).answer ≡ Done (plan_of (planner c))
+  pub held : (place : List ℕ) → (planned planner (accepted c) place).answer ≡ Ok (plan_of (planner c))
       → Holds (planner c).script.type (planner c).script.commands (plan_of (planner c)) place (planned planner (accepted c) place).place
   pub short : length (plan_block c (planner c)) ≤ most_block (planner c).script.type
 
 -- What such a planner leaves in a place of 5,124 bytes: its field holds the plan.
 module _ {c : Contents} {planner : Contents → Made} (prints : Prints c planner) (place : List ℕ) (long : length place ≡ enough_bytes) where
-  abbrev after : Left Planned
+  abbrev after : Left (Result Plan Refusal)
   after = planned planner (accepted c) place
 
-  planned_done : after.answer ≡ Done (plan_of (planner c))
+  planned_done : after.answer ≡ Ok (plan_of (planner c))
   unfolding planned placed_plan sent_plan
   planned_done = rw (le-leb (length (script_field (planner c))) (length place) (omega (arith, prints.room)))
 
-  pub planned_reads : (answer : Planned) (field : List ℕ) → length field ≡ enough_bytes → left_by answer field ≡ after → Reads answer field (planner c)
+  pub planned_reads : (answer : Result Plan Refusal) (field : List ℕ) → length field ≡ enough_bytes → left_by answer field ≡ after → Reads answer field (planner c)
   unfolding plan_of
   planned_reads answer field same left =
       let plan = plan_of (planner c) in
-      let there : field ≡ after.place = ap (λ (l : Left Planned). l.place) left in
+      let there : field ≡ after.place = ap (λ (l : Left (Result Plan Refusal)). l.place) left in
       let holds : Holds (planner c).script.type (planner c).script.commands plan place field = rw there (prints.held place planned_done) in
       let size : plan.bytes - head_bytes ≡ number (part 1 2 field) = omega (arith, holds.size) in
       record {
         plan = plan;
-        done = ap (λ (l : Left Planned). l.answer) left ∙ planned_done;
+        done = ap (λ (l : Left (Result Plan Refusal)). l.answer) left ∙ planned_done;
         keeps = refl;
         headed = omega (arith, holds.size);
         inside = omega (arith, prints.room);

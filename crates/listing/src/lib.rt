@@ -2,89 +2,51 @@
 
 #![tactic(auto)]
 
-ghost use Rattle.std.specs.Prelude.{◌≡◌, List, length};
+ghost use Rattle.std.specs.Prelude.{◌≡◌, length};
 ghost use Rattle.deployment.specs.Contents.{Contents};
 ghost use Rattle.deployment.specs.File.{accepted, read_file};
 ghost use Rattle.deployment.specs.FieldValues.{left_by, writing};
 ghost use Rattle.plans.specs.Plans.{Made};
 ghost use Rattle.lines.specs.Text.{block_text};
-ghost use Rattle.lines.specs.Printing.{Puts, Whole, Needed};
+ghost use Rattle.lines.specs.Printing.{Puts, Whole};
 ghost use Rattle.listing.specs.Text.{plan_printed, judge_printed};
 ghost use Rattle.listing.specs.Printing.{most_text, Reads};
 
-use deployment::{Refusal, Why, Written};
+use deployment::Refusal;
 use entries::files::{judge, plan_one, plan_two};
 use format::{HEAD_BYTES, listed};
-use judge::Judged;
 use lines::blocks::put_block;
 use lines::outcomes::{put_refused, put_verdict};
-use plans::Planned;
+use lines::whole::whole_text;
+use plans::Plan;
 use plans::field::FIELD_BYTES;
 use policy::Command;
-use reader::FileRead;
 use reader::file::{read, value};
 
 // No text is longer: a place of so many bytes is never too small.
 pub const MOST_TEXT: usize = 65536;
 
 // What `planlist` prints for a file: both plans, or the refusal.
-pub fn plan_text(file: &[u8], place: &mut [u8]) -> Written
+pub fn plan_text(file: &[u8], place: &mut [u8]) -> Result<usize, Refusal>
     ensures { left_by result place.new ≡ writing (plan_printed file.now) place.old }
 {
-    let needed = plans_needed(file, place.len());
-    if place.len() < needed {
-        return Written::Turned(Refusal {
-            why: Why::Room,
-            at: needed,
-        });
-    }
-    Written::Bytes(put_plans(file, place))
+    whole_text(|place| put_plans(file, place), MOST_TEXT, place)
 }
 
 // What `judgelist` prints for a file: the verdict, or the refusal.
-pub fn judge_text(file: &[u8], place: &mut [u8]) -> Written
+pub fn judge_text(file: &[u8], place: &mut [u8]) -> Result<usize, Refusal>
     ensures { left_by result place.new ≡ writing (judge_printed file.now) place.old }
 {
-    let needed = judged_needed(file, place.len());
-    if place.len() < needed {
-        return Written::Turned(Refusal {
-            why: Why::Room,
-            at: needed,
-        });
-    }
-    Written::Bytes(put_judged(file, place))
-}
-
-// How many bytes the text of both plans needs: it is put into no place at all, and counted. Room for the longest text needs no count.
-fn plans_needed(file: &[u8], room: usize) -> usize
-    ensures { Needed most_text (plan_printed file.now) room result }
-{
-    if MOST_TEXT <= room {
-        return 0;
-    }
-    let mut nowhere = [0u8; 0];
-    put_plans(file, &mut nowhere)
-}
-
-// The same for the text of the verdict.
-fn judged_needed(file: &[u8], room: usize) -> usize
-    ensures { Needed most_text (judge_printed file.now) room result }
-{
-    if MOST_TEXT <= room {
-        return 0;
-    }
-    let mut nowhere = [0u8; 0];
-    put_judged(file, &mut nowhere)
+    whole_text(|place| put_judged(file, place), MOST_TEXT, place)
 }
 
 // The text of both plans, or of the refusal.
 fn put_plans(file: &[u8], place: &mut [u8]) -> usize
     ensures { Whole most_text place.old (plan_printed file.now) place.new result }
 {
-    let found = read(file);
-    match found {
-        FileRead::Refused(refusal) => put_refused(place, refusal),
-        FileRead::Accepted(layout) => {
+    match read(file) {
+        Err(refusal) => put_refused(place, refusal),
+        Ok(layout) => {
             let initial = listed(value(file, layout.initial));
             let target = listed(value(file, layout.target));
             put_both(file, initial, target, place)
@@ -113,17 +75,16 @@ fn put_plan(
     kind: usize,
     initial: usize,
     target: usize,
-    answer: Planned,
+    answer: Result<Plan, Refusal>,
     field: &[u8],
 ) -> usize
     requires { (made : Made) × Reads answer field.now made }
     ensures { (made : Made) → Reads answer field.now made
         → Puts place.old at (block_text kind initial target made.kept made.script.commands) place.new result }
 {
-    let Planned::Done(plan) = answer else {
+    let Ok(plan) = answer else {
         return at;
     };
-    let end = plan.bytes;
     put_block(
         place,
         at,
@@ -131,7 +92,7 @@ fn put_plan(
         initial,
         target,
         plan.kept,
-        &field[HEAD_BYTES..end],
+        &field[HEAD_BYTES..plan.bytes],
     )
 }
 
@@ -139,9 +100,8 @@ fn put_plan(
 fn put_judged(file: &[u8], place: &mut [u8]) -> usize
     ensures { Whole most_text place.old (judge_printed file.now) place.new result }
 {
-    let found = judge(file);
-    match found {
-        Judged::Turned(refusal) => put_refused(place, refusal),
-        Judged::Said(v) => put_verdict(place, v),
+    match judge(file) {
+        Err(refusal) => put_refused(place, refusal),
+        Ok(v) => put_verdict(place, v),
     }
 }

@@ -1,11 +1,8 @@
 -- What code finds of a number in a text: what is held of it and the position behind it, or that none is there. Assumes nothing.
-use Rattle.std.specs.Prelude.{ℕ, ◌≤◌, min, ◌≡◌, List, length, drop}
+use Rattle.std.specs.Prelude.{Option as CodeOption, Some, None, ℕ, ◌≤◌, min, ◌≡◌, List, length, drop}
 use Rattle.std.proofs.Math.Option.{Option, none, some}
 use Rattle.numerals.specs.Numerals.{Got}
 use Rattle.numerals.specs.declared.Number.{Number}
-use Rattle.numerals.specs.declared.Number.TheVariants as number
-use Rattle.numerals.specs.declared.Whole.{Whole}
-use Rattle.numerals.specs.declared.Whole.TheVariants as whole
 
 -- a number is held up to the first that is above every bound: 65,537 stands for itself and all above it
 abbrev pub most_held : ℕ
@@ -20,11 +17,11 @@ pub record Left (s : List ℕ) (end : ℕ) (rest : List ℕ) : Type 0 where
   pub is : drop end s ≡ rest
 
 -- a number that is read, or not
-abbrev pub NumberFound : List ℕ → Option (Got ℕ) → Number → Type 0
-NumberFound s (some got) answer = (end : ℕ) × (answer ≡ number.Is (held got.value) end) × Left s end got.rest
-NumberFound s none answer = answer ≡ number.Not
+abbrev pub NumberFound : List ℕ → Option (Got ℕ) → CodeOption Number → Type 0
+NumberFound s (some got) answer = (end : ℕ) × (answer ≡ Some (record { value = held got.value; end = end })) × Left s end got.rest
+NumberFound s none answer = answer ≡ None
 
 -- what is held of the number that a whole word is, or that it is none
-unfoldable pub whole_held : Option ℕ → Whole
-whole_held (some n) = whole.Is (held n)
-whole_held none = whole.Not
+unfoldable pub whole_held : Option ℕ → CodeOption ℕ
+whole_held (some n) = Some (held n)
+whole_held none = None

@@ -13,25 +13,11 @@ const NINE: u8 = b'9';
 // Above every bound: stands for itself and all numbers above it.
 const MOST_HELD: usize = 65537;
 
-// A number and the position behind it, or that none is there.
+// A number, and the position behind it.
 #[derive(Clone, Copy)]
-pub enum Number {
-    Is(usize, usize),
-    Not,
-}
-
-// The number that a whole word is, or that it is none.
-#[derive(Clone, Copy)]
-pub enum Whole {
-    Is(usize),
-    Not,
-}
-
-// The number that digits make, and the position behind them.
-#[derive(Clone, Copy)]
-struct Digits {
-    value: usize,
-    end: usize,
+pub struct Number {
+    pub value: usize,
+    pub end: usize,
 }
 
 // "numbers": a decimal digit.
@@ -47,55 +33,52 @@ fn with_digit(n: usize, digit: u8) -> usize
     ensures { result ≡ held (10 * n + (digit - 48)) }
 {
     let more = 10 * n + (digit - ZERO) as usize;
-    if MOST_HELD < more {
-        return MOST_HELD;
-    }
-    more
+    more.min(MOST_HELD)
 }
 
 // The digits that follow, behind those of a number.
-fn digits_from(text: &[u8], at: usize, n: usize) -> Digits
+fn digits_from(text: &[u8], at: usize, n: usize) -> Number
     requires { (at ≤ length text.now) × (n ≤ most_held) }
     ensures { (result.value ≡ held (goes_on n (drop at text.now)).value)
         × Left text.now result.end (goes_on n (drop at text.now)).rest }
 {
     let mut value = n;
     let mut end = at;
+    // Kept: a `for` over the bytes would count `end` by hand beside them.
     while end < text.len() && is_digit(text[end]) {
         value = with_digit(value, text[end]);
         end += 1;
     }
-    Digits { value, end }
+    Number { value, end }
 }
 
 // The number that stands at a position; "numbers have no leading zeros". Past the end of the text none stands.
-pub fn number_at(text: &[u8], at: usize) -> Number
+pub fn number_at(text: &[u8], at: usize) -> Option<Number>
     ensures { NumberFound text.now (numeral_read (drop at text.now)) result }
 {
     if text.len() <= at {
-        return Number::Not;
+        return None;
     }
     let first = text[at];
     if !is_digit(first) {
-        return Number::Not;
+        return None;
     }
     if first == ZERO {
-        return Number::Is(0, at + 1);
+        return Some(Number {
+            value: 0,
+            end: at + 1,
+        });
     }
-    let digits = digits_from(text, at + 1, (first - ZERO) as usize);
-    Number::Is(digits.value, digits.end)
+    Some(digits_from(text, at + 1, (first - ZERO) as usize))
 }
 
 // The number that a whole word is: its digits, and nothing behind them.
-pub fn number_of(word: &[u8]) -> Whole
+pub fn number_of(word: &[u8]) -> Option<usize>
     ensures { result ≡ whole_held (number_of word.now) }
 {
-    let number = number_at(word, 0);
-    let Number::Is(value, end) = number else {
-        return Whole::Not;
-    };
-    if end < word.len() {
-        return Whole::Not;
+    let number = number_at(word, 0)?;
+    if number.end < word.len() {
+        return None;
     }
-    Whole::Is(value)
+    Some(number.value)
 }

@@ -51,6 +51,7 @@ fn front_part(policy: &[u8], from: usize, places: &[u16], k: usize) -> usize
     requires { from ≤ front (stands places.now k) (numbers_of policy.now) }
     ensures { result ≡ front (stands places.now k) (numbers_of policy.now) }
 {
+    // Kept: it goes on while a test holds, and says where that ends; no range or list is gone through.
     let mut i = from;
     while stands_at(policy, i, places, k) {
         i += 1;
@@ -99,17 +100,14 @@ pub fn is_ordered(list: &[u16], places: &[u16], initial: &[u8], target: &[u8]) -
 {
     let mut a = 0;
     let mut b = 0;
-    let mut k = 0;
-    while k < list.len() {
-        let r = list[k];
-        let by_initial = is_at(initial, a, r);
-        let by_target = is_at(target, b, r);
+    for (k, r) in list.iter().enumerate() {
+        let by_initial = is_at(initial, a, *r);
+        let by_target = is_at(target, b, *r);
         if !by_initial && !by_target {
             return false;
         }
-        k += 1;
-        a = grown(initial, a, by_initial, places, k);
-        b = grown(target, b, by_target, places, k);
+        a = grown(initial, a, by_initial, places, k + 1);
+        b = grown(target, b, by_target, places, k + 1);
     }
     true
 }
@@ -121,11 +119,13 @@ pub fn first_unsupported(list: &[u16], places: &[u16], initial: &[u8], target: &
         × (ordered (numbers_of initial.now) (numbers_of target.now) list.now ≡ false) }
     ensures { first_unsupported (numbers_of initial.now) (numbers_of target.now) list.now ≡ some result }
 {
+    // Kept: the loop stops at the place that is told, and a `for` would have to tell one behind the list, which never comes.
     let mut k = 0;
     'places: while k < list.len() {
         let r = list[k];
         let mut a = 0;
         let mut b = 0;
+        // Kept: two indices go on at once, until one policy comes to r or both are stuck.
         while !is_next(initial, a, target, b, r) {
             let next_a = advanced(initial, a, places, k);
             let next_b = advanced(target, b, places, k);

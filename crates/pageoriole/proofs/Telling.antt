@@ -3,7 +3,7 @@
 use Prim.Native.Nat.{ℕ}
 use mathlib.Core.Path.{◌≡◌, ap}
 use mathlib.Core.List.{List}
-use Rattle.told.specs.Answers.{Told, Tells}
+use Rattle.told.specs.Answers.{Tells}
 use Rattle.told.proofs.Telling.{tells_of}
 use Rattle.pageoriole.specs.Answers.{Outcome, Leaves}
 

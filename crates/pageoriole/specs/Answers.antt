@@ -1,9 +1,10 @@
 -- What a C function leaves: what is told, and every byte of the lent place, for each answer of the entries that write. Assumes nothing.
-use Rattle.std.specs.Prelude.{ℕ, ◌≡◌, List}
+use Rattle.std.specs.Prelude.{Result, ℕ, ◌≡◌, List}
 use Rattle.policy.specs.declared.Flow.{Flow}
 use Rattle.deployment.specs.FieldValues.{Left, Writing}
-use Rattle.last_list.specs.declared.Ran.{Ran}
-use Rattle.plans.specs.declared.Planned.{Planned}
+use Rattle.last_list.specs.Last.{Ran}
+use Rattle.plans.specs.declared.Plan.{Plan}
+use Rattle.deployment.specs.declared.Refusal.{Refusal}
 use Rattle.told.specs.Answers.{Told, Tells, written_told, ran_told, planned_told}
 
 -- what is told, and every byte of the lent place
@@ -22,7 +23,7 @@ write_outcome w = record { told = written_told w.answer; place = w.place }
 abbrev pub replay_outcome : Left Ran → Outcome
 replay_outcome l = record { told = ran_told l.answer; place = l.place }
 
-abbrev pub plan_outcome : Left Planned → Outcome
+abbrev pub plan_outcome : Left (Result Plan Refusal) → Outcome
 plan_outcome l = record { told = planned_told l.answer; place = l.place }
 
 -- "A flow is five numbers."

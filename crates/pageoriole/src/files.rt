@@ -26,8 +26,7 @@ use told::{tell_decided, tell_judged, tell_planned, tell_ran, tell_read, tell_wr
 pub extern "C" fn pageoriole_read(file: &[u8], answer: &mut [u64]) -> u32
     ensures { Tells (read_told (file_read file.now)) result answer.old answer.new }
 {
-    let found = read(file);
-    tell_read(found, answer)
+    tell_read(read(file), answer)
 }
 
 // The same, for the judge: a file without a script is turned away.
@@ -35,8 +34,7 @@ pub extern "C" fn pageoriole_read(file: &[u8], answer: &mut [u64]) -> u32
 pub extern "C" fn pageoriole_read_to_judge(file: &[u8], answer: &mut [u64]) -> u32
     ensures { Tells (read_told (shown (read_to_judge file.now))) result answer.old answer.new }
 {
-    let found = read_to_judge(file);
-    tell_read(found, answer)
+    tell_read(read_to_judge(file), answer)
 }
 
 // Decides a flow by the target policy of the file, if asked for, or else by its initial one: action and place.
@@ -62,8 +60,7 @@ pub extern "C" fn pageoriole_decide_file(
         destination,
         destination_port,
     };
-    let found = decide(file, of_target, flow);
-    tell_decided(found, answer)
+    tell_decided(decide(file, of_target, flow), answer)
 }
 
 // Decides flows by a policy of the file, read once: bytes of the answers, three for each flow of 13, which fill the first bytes of `place`.
@@ -79,8 +76,7 @@ pub extern "C" fn pageoriole_decide_flows_file(
         (write_outcome (flows_reading of_target flows.now (read_file file.now) place.old))
         result answer.old answer.new place.new }
 {
-    let found = decide_flows(file, of_target, flows, place);
-    tell_written(found, answer)
+    tell_written(decide_flows(file, of_target, flows, place), answer)
 }
 
 // Replays the script of the file: bytes of the last list, which fills the first bytes of `place`; or 20 to 23 and the step.
@@ -90,8 +86,7 @@ pub extern "C" fn pageoriole_replay_file(file: &[u8], place: &mut [u8], answer: 
         (replay_outcome (replayed_reading (read_to_judge file.now) place.old))
         result answer.old answer.new place.new }
 {
-    let found = replay(file, place);
-    tell_ran(found, answer)
+    tell_ran(replay(file, place), answer)
 }
 
 // Plans by append and delete: rules kept, commands and bytes of the script field, which fills the first bytes of `place`.
@@ -101,8 +96,7 @@ pub extern "C" fn pageoriole_plan_one_file(file: &[u8], place: &mut [u8], answer
         (plan_outcome (planned made_one (read_file file.now) place.old))
         result answer.old answer.new place.new }
 {
-    let found = plan_one(file, place);
-    tell_planned(found, answer)
+    tell_planned(plan_one(file, place), answer)
 }
 
 // Plans by insert, delete and move.
@@ -112,8 +106,7 @@ pub extern "C" fn pageoriole_plan_two_file(file: &[u8], place: &mut [u8], answer
         (plan_outcome (planned made_two (read_file file.now) place.old))
         result answer.old answer.new place.new }
 {
-    let found = plan_two(file, place);
-    tell_planned(found, answer)
+    tell_planned(plan_two(file, place), answer)
 }
 
 // Judges the script of the file: the verdict's number, and its values.
@@ -121,8 +114,7 @@ pub extern "C" fn pageoriole_plan_two_file(file: &[u8], place: &mut [u8], answer
 pub extern "C" fn pageoriole_judge_file(file: &[u8], answer: &mut [u64]) -> u32
     ensures { Tells (judged_told (judged_reading (read_to_judge file.now))) result answer.old answer.new }
 {
-    let found = judge(file);
-    tell_judged(found, answer)
+    tell_judged(judge(file), answer)
 }
 
 // What `planlist` prints for the file, in the first bytes of `place`: bytes. A file that is turned away has a text too.
@@ -132,8 +124,7 @@ pub extern "C" fn pageoriole_plan_text(file: &[u8], place: &mut [u8], answer: &m
         (write_outcome (writing (plan_printed file.now) place.old))
         result answer.old answer.new place.new }
 {
-    let found = plan_text(file, place);
-    tell_written(found, answer)
+    tell_written(plan_text(file, place), answer)
 }
 
 // What `judgelist` prints for the file.
@@ -143,8 +134,7 @@ pub extern "C" fn pageoriole_judge_text(file: &[u8], place: &mut [u8], answer: &
         (write_outcome (writing (judge_printed file.now) place.old))
         result answer.old answer.new place.new }
 {
-    let found = judge_text(file, place);
-    tell_written(found, answer)
+    tell_written(judge_text(file, place), answer)
 }
 
 // What `showlist` prints for the file.
@@ -154,6 +144,5 @@ pub extern "C" fn pageoriole_show_text(file: &[u8], place: &mut [u8], answer: &m
         (write_outcome (writing (show_printed file.now) place.old))
         result answer.old answer.new place.new }
 {
-    let found = show_text(file, place);
-    tell_written(found, answer)
+    tell_written(show_text(file, place), answer)
 }

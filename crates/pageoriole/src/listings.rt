@@ -17,6 +17,5 @@ pub extern "C" fn pageoriole_from_iptables(
         (write_outcome (file_of_listing listing.now place.old))
         result answer.old answer.new place.new }
 {
-    let found = from_iptables(listing, place);
-    tell_written(found, answer)
+    tell_written(from_iptables(listing, place), answer)
 }

@@ -1,8 +1,8 @@
 // Over field values: each entry as a function that C can call. The number is returned, its values stand in `answer`; the default, the
-// keep list and the script are there if their `has_` says so.
+// keep list and the script are there if their `has_` says so. (Kept: C has no options.)
 
-ghost use Rattle.std.specs.Prelude.{true};
-ghost use Rattle.deployment.specs.FieldValues.{read_values, values_read};
+ghost use Rattle.std.specs.Prelude.{◌≡◌, true};
+ghost use Rattle.deployment.specs.FieldValues.{lent, read_values, values_read};
 ghost use Rattle.catalogue.specs.Answers.{checking};
 ghost use Rattle.values.specs.Answers.{given, values_given};
 ghost use Rattle.entries.specs.Answers.{written_values};
@@ -14,9 +14,42 @@ ghost use Rattle.last_list.specs.Last.{replayed_at_zero};
 ghost use Rattle.told.specs.Answers.{Tells, checked_told, decided_told, judged_told};
 ghost use Rattle.pageoriole.specs.Answers.{Leaves, write_outcome, replay_outcome, plan_outcome, flow_of};
 
-use entries::lists::{check, decide, decide_flows, judge, plan_one, plan_two, replay, write};
+use entries::lists::{
+    Values, check, decide, decide_flows, judge, plan_one, plan_two, replay, write,
+};
 use policy::Flow;
 use told::{tell_checked, tell_decided, tell_judged, tell_planned, tell_ran, tell_written};
+
+// A field value that may be absent, as C lends it: with a flag beside it.
+fn given(is: bool, value: &[u8]) -> Option<&[u8]>
+    ensures { lent result ≡ given is value.now }
+{
+    if is { Some(value) } else { None }
+}
+
+// Field values, as C lends them.
+fn values<'a>(
+    rules: &'a [u8],
+    initial: &'a [u8],
+    target: &'a [u8],
+    has_default: bool,
+    default: &'a [u8],
+    has_keep: bool,
+    keep: &'a [u8],
+    has_script: bool,
+    script: &'a [u8],
+) -> Values<'a>
+    ensures { result ≡ values_given rules.now initial.now target.now has_default default.now has_keep keep.now has_script script.now }
+{
+    Values {
+        rules,
+        initial,
+        target,
+        default: given(has_default, default),
+        keep: given(has_keep, keep),
+        script: given(has_script, script),
+    }
+}
 
 // Whether field values pass.
 #[unsafe(no_mangle)]
@@ -38,7 +71,7 @@ pub extern "C" fn pageoriole_check(
         has_script script.now))))
         result answer.old answer.new }
 {
-    let found = check(
+    let values = values(
         rules,
         initial,
         target,
@@ -49,7 +82,7 @@ pub extern "C" fn pageoriole_check(
         has_script,
         script,
     );
-    tell_checked(found, answer)
+    tell_checked(check(&values), answer)
 }
 
 // Writes the file of the field values into the first bytes of `place`: bytes.
@@ -74,7 +107,7 @@ pub extern "C" fn pageoriole_write(
         place.old))
         result answer.old answer.new place.new }
 {
-    let found = write(
+    let values = values(
         rules,
         initial,
         target,
@@ -84,9 +117,8 @@ pub extern "C" fn pageoriole_write(
         keep,
         has_script,
         script,
-        place,
     );
-    tell_written(found, answer)
+    tell_written(write(&values, place), answer)
 }
 
 // Decides a flow by a policy: action and place.
@@ -115,8 +147,10 @@ pub extern "C" fn pageoriole_decide(
         destination,
         destination_port,
     };
-    let found = decide(rules, policy, has_default, default, flow);
-    tell_decided(found, answer)
+    tell_decided(
+        decide(rules, policy, given(has_default, default), flow),
+        answer,
+    )
 }
 
 // Decides flows by a policy, tested once: bytes of the answers, three for each flow of 13, which fill the first bytes of `place`.
@@ -135,8 +169,10 @@ pub extern "C" fn pageoriole_decide_flows(
         place.old))
         result answer.old answer.new place.new }
 {
-    let found = decide_flows(rules, policy, has_default, default, flows, place);
-    tell_written(found, answer)
+    tell_written(
+        decide_flows(rules, policy, given(has_default, default), flows, place),
+        answer,
+    )
 }
 
 // Replays a script from a policy: bytes of the last list, which fills the first bytes of `place`; or 20 to 23 and the step.
@@ -155,8 +191,10 @@ pub extern "C" fn pageoriole_replay(
         place.old))
         result answer.old answer.new place.new }
 {
-    let found = replay(rules, initial, has_default, default, script, place);
-    tell_ran(found, answer)
+    tell_ran(
+        replay(rules, initial, given(has_default, default), script, place),
+        answer,
+    )
 }
 
 // Plans by append and delete: rules kept, commands and bytes of the script field, which fills the first bytes of `place`.
@@ -181,7 +219,7 @@ pub extern "C" fn pageoriole_plan_one(
         place.old))
         result answer.old answer.new place.new }
 {
-    let found = plan_one(
+    let values = values(
         rules,
         initial,
         target,
@@ -191,9 +229,8 @@ pub extern "C" fn pageoriole_plan_one(
         keep,
         has_script,
         script,
-        place,
     );
-    tell_planned(found, answer)
+    tell_planned(plan_one(&values, place), answer)
 }
 
 // Plans by insert, delete and move.
@@ -218,7 +255,7 @@ pub extern "C" fn pageoriole_plan_two(
         place.old))
         result answer.old answer.new place.new }
 {
-    let found = plan_two(
+    let values = values(
         rules,
         initial,
         target,
@@ -228,9 +265,8 @@ pub extern "C" fn pageoriole_plan_two(
         keep,
         has_script,
         script,
-        place,
     );
-    tell_planned(found, answer)
+    tell_planned(plan_two(&values, place), answer)
 }
 
 // Judges a script: the verdict's number, and its values.
@@ -252,7 +288,7 @@ pub extern "C" fn pageoriole_judge(
         true script.now))))
         result answer.old answer.new }
 {
-    let found = judge(
+    let values = values(
         rules,
         initial,
         target,
@@ -260,7 +296,8 @@ pub extern "C" fn pageoriole_judge(
         default,
         has_keep,
         keep,
+        true,
         script,
     );
-    tell_judged(found, answer)
+    tell_judged(judge(&values), answer)
 }

@@ -24,8 +24,7 @@ pub extern "C" fn pageoriole_script_text(
         (write_outcome (text_of_value (maker_of maker_b) script.now place.old))
         result answer.old answer.new place.new }
 {
-    let found = script_text(script, maker_of(maker_b), place);
-    tell_written(found, answer)
+    tell_written(script_text(script, maker_of(maker_b), place), answer)
 }
 
 // The text of the file's own script.
@@ -40,8 +39,7 @@ pub extern "C" fn pageoriole_script_text_file(
         (write_outcome (text_of_file (maker_of maker_b) file.now place.old))
         result answer.old answer.new place.new }
 {
-    let found = file_text(file, maker_of(maker_b), place);
-    tell_written(found, answer)
+    tell_written(file_text(file, maker_of(maker_b), place), answer)
 }
 
 // The text of the plan by append and delete for the file's policies.
@@ -56,8 +54,7 @@ pub extern "C" fn pageoriole_plan_one_text(
         (write_outcome (text_of_plan (maker_of maker_b) made_one file.now place.old))
         result answer.old answer.new place.new }
 {
-    let found = plan_one_text(file, maker_of(maker_b), place);
-    tell_written(found, answer)
+    tell_written(plan_one_text(file, maker_of(maker_b), place), answer)
 }
 
 // The same by insert, delete and move.
@@ -72,8 +69,7 @@ pub extern "C" fn pageoriole_plan_two_text(
         (write_outcome (text_of_plan (maker_of maker_b) made_two file.now place.old))
         result answer.old answer.new place.new }
 {
-    let found = plan_two_text(file, maker_of(maker_b), place);
-    tell_written(found, answer)
+    tell_written(plan_two_text(file, maker_of(maker_b), place), answer)
 }
 
 // Text read back as a script of a type: the script field fills the first bytes of `place`: bytes.
@@ -89,6 +85,5 @@ pub extern "C" fn pageoriole_text_script(
         (write_outcome (script_of_text (maker_of maker_b) kind text.now place.old))
         result answer.old answer.new place.new }
 {
-    let found = text_script(text, kind, maker_of(maker_b), place);
-    tell_written(found, answer)
+    tell_written(text_script(text, kind, maker_of(maker_b), place), answer)
 }

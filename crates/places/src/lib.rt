@@ -30,13 +30,7 @@ impl Places {
     pub fn place(self, r: u16) -> usize
         ensures { result ≡ get_or self.of r 0 }
     {
-        let at = r as usize;
-        if at < MOST_RULES {
-            let of = self.of;
-            of[at] as usize
-        } else {
-            0
-        }
+        place_of(&self.of, r)
     }
 
     // The array with rule r absent.
@@ -58,13 +52,11 @@ impl Places {
         let len = list.count();
         let rules = list.rules;
         let mut of = self.of;
-        let mut k = from;
-        while k < len {
+        for k in from..len {
             let at = rules[k] as usize;
             if at < MOST_RULES {
                 of[at] = (k + 1) as u16;
             }
-            k += 1;
         }
         Places { of }
     }

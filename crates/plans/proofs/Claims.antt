@@ -56,8 +56,7 @@ use Rattle.plans.specs.Claims.{
   RoomForEvery,
 }
 use Rattle.plans.specs.declared.Plan.{Plan}
-use Rattle.plans.specs.declared.Planned.{Planned}
-use Rattle.plans.specs.declared.Planned.TheVariants.{Done, Turned}
+use Rattle.std.specs.Prelude.{Result, Ok, Err}
 use Rattle.plans.proofs.Sending.{length_field}
 
 -- The numbers of a command that passes have two bytes.
@@ -121,18 +120,15 @@ module _ (made : Made) (right : Scripted made.script) (place : List ℕ) where
       }
 
 -- A plan that is answered is the plan, and the place is filled.
-done_filled : (plan other : Plan) (field place : List ℕ) → (sent_plan plan field place).answer ≡ Done other
+done_filled : (plan other : Plan) (field place : List ℕ) → (sent_plan plan field place).answer ≡ Ok other
     → (other ≡ plan) × ((sent_plan plan field place).place ≡ filled place field)
 unfolding sent_plan
 done_filled plan other field place e =
     by_test (leb (length field) (length place))
-    (λ room. let same : plan ≡ other = done_same (rw room at e) in (sym same, rw room))
+    (λ room. let same : plan ≡ other = cc (rw room at e) in (sym same, rw room))
     (λ small. absurd (let z : ◌≡◌ {A = ℕ} 0 1 = cc (rw small at e) in omega arith))
-  where
-    done_same : {p q : Plan} → Done p ≡ Done q → p ≡ q
-    done_same e = cc
 
-made_holds : (made : Made) → Scripted made.script → (place : List ℕ) (plan : Plan) → (placed_plan made place).answer ≡ Done plan
+made_holds : (made : Made) → Scripted made.script → (place : List ℕ) (plan : Plan) → (placed_plan made place).answer ≡ Ok plan
     → (plan ≡ plan_of made) × Holds made.script.type made.script.commands plan place (placed_plan made place).place
 unfolding placed_plan
 made_holds made right place plan e =
@@ -151,7 +147,7 @@ module _ (c : Contents) (valid : Valid c) where
   plan_holds : (made : Made) → ScriptType made.script.type → length made.script.commands ≤ 1024
       → (of_type made.script.type made.script.commands ≡ true)
       × Leads (length c.catalogue) c.initial made.script.commands c.target
-      → (place : List ℕ) (plan : Plan) → (placed_plan made place).answer ≡ Done plan
+      → (place : List ℕ) (plan : Plan) → (placed_plan made place).answer ≡ Ok plan
       → HoldsPlan made.script.type made.script.commands made.kept c plan place (placed_plan made place).place
   unfolding plan_of
   plan_holds made legal few reaches place plan e =
@@ -193,11 +189,11 @@ two_holds c place plan valid e =
 -- What the numbers of an answer say, and how much room a plan needs.
 pub planned_numbers_say : PlannedNumbersSay
 unfolding planned_numbers
-planned_numbers_say = numbers_say planned_numbers Turned (λ r. refl) cases
+planned_numbers_say = numbers_say planned_numbers Err (λ r. refl) cases
   where
-    cases : (answer : Planned) → (planned_numbers answer ≡ []) ⊎ ((r : Refusal) × (answer ≡ Turned r))
-    cases (Done plan) = inl refl
-    cases (Turned r) = inr (r, refl)
+    cases : (answer : Result Plan Refusal) → (planned_numbers answer ≡ []) ⊎ ((r : Refusal) × (answer ≡ Err r))
+    cases (Ok plan) = inl refl
+    cases (Err r) = inr (r, refl)
 
 pub room_for_every : RoomForEvery
 unfolding script_field made_one made_one_of made_two made_two_of

@@ -12,20 +12,20 @@ use Rattle.deployment.proofs.Storing.{stored_fills}
 use Rattle.deployment.proofs.Lent as lent
 use Rattle.plans.specs.Plans.{Made, script_field, plan_of, Placed, sent_plan, placed_plan}
 use Rattle.plans.specs.declared.Plan.{Plan}
-use Rattle.plans.specs.declared.Planned.TheVariants.{Done, Turned}
+use Rattle.std.specs.Prelude.{Ok, Err}
 
 module _ (plan : Plan) (field place : List ℕ) where
   -- 13
-  pub no_room : length place < length field → left_by (Turned (record { why = Room; at = length field })) place ≡ sent_plan plan field place
+  pub no_room : length place < length field → left_by (Err (record { why = Room; at = length field })) place ≡ sent_plan plan field place
   unfolding sent_plan
-  no_room small = lent.no_room Turned (Done plan) field place (length field) refl small
+  no_room small = lent.no_room Err (Ok plan) field place (length field) refl small
 
   -- the field at the front of the place
-  pub field_sent : (next : List ℕ) → length field ≤ length place → next ≡ sets place 0 field → left_by (Done plan) next ≡ sent_plan plan field place
+  pub field_sent : (next : List ℕ) → length field ≤ length place → next ≡ sets place 0 field → left_by (Ok plan) next ≡ sent_plan plan field place
   unfolding sent_plan
   field_sent next room put =
       let fills : next ≡ filled place field = stored_fills (record { place = put; end = refl }) (omega arith) in
-      lent.with_room Turned (Done plan) field place (length field) refl room fills
+      lent.with_room Err (Ok plan) field place (length field) refl room fills
 
 -- A plan and the place that it was made in.
 module _ {made : Made} {plan : Plan} {old field : List ℕ} (is : Placed made plan old field) where

@@ -1,7 +1,7 @@
 -- What a customer buys of the planners, about the definitions of their answers for accepted contents: what stands in the lent place is a
 -- script that reads back, with all that the theory says of it. Each claim is a statement; proofs/Claims.antt has, for each, a proof of the
 -- same name in small letters with hyphens, and crate `entries` says it of each entry. Assumes nothing.
-use Rattle.std.specs.Prelude.{ℕ, ◌+◌, ◌*◌, ◌≤◌, ◌≡◌, ◌⊎◌, ◌↔◌, true, List, [], ◌∷◌, length, drop}
+use Rattle.std.specs.Prelude.{Result, Ok, Err, ℕ, ◌+◌, ◌*◌, ◌≤◌, ◌≡◌, ◌⊎◌, ◌↔◌, true, List, [], ◌∷◌, length, drop}
 use Rattle.std.proofs.Math.Option.{some}
 use Rattle.policy.specs.Lists.{common}
 use Rattle.policy.specs.Policy.{Matching}
@@ -23,8 +23,6 @@ use Rattle.deployment.specs.declared.Refusal.{Refusal}
 use Rattle.plans.specs.Sending.{field_width}
 use Rattle.plans.specs.Plans.{script_field, made_one, made_two, planned_numbers, placed_plan}
 use Rattle.plans.specs.declared.Plan.{Plan}
-use Rattle.plans.specs.declared.Planned.{Planned}
-use Rattle.plans.specs.declared.Planned.TheVariants.{Done, Turned}
 
 -- a script field at the front of a place: tag 05, the length, and a value that reads back as these commands, as many as the answer counts;
 -- "the rest keep theirs"
@@ -55,7 +53,7 @@ pub record HoldsOne (c : Contents) (plan : Plan) (before after : List ℕ) : Typ
 
 abbrev pub OneHolds : Type 0
 OneHolds =
-    (c : Contents) (place : List ℕ) (plan : Plan) → Valid c → (placed_plan (made_one c) place).answer ≡ Done plan
+    (c : Contents) (place : List ℕ) (plan : Plan) → Valid c → (placed_plan (made_one c) place).answer ≡ Ok plan
     → HoldsOne c plan place (placed_plan (made_one c) place).place
 
 -- "Script for insert, delete and move": the judge gives it 32, and each flow has one point of change
@@ -70,12 +68,12 @@ pub record HoldsTwo (c : Contents) (plan : Plan) (before after : List ℕ) : Typ
 
 abbrev pub TwoHolds : Type 0
 TwoHolds =
-    (c : Contents) (place : List ℕ) (plan : Plan) → Valid c → (placed_plan (made_two c) place).answer ≡ Done plan
+    (c : Contents) (place : List ℕ) (plan : Plan) → Valid c → (placed_plan (made_two c) place).answer ≡ Ok plan
     → HoldsTwo c plan place (placed_plan (made_two c) place).place
 
 -- The numbers of an answer tell its refusal.
 abbrev pub PlannedNumbersSay : Type 0
-PlannedNumbersSay = (answer : Planned) (refusal : Refusal) → (planned_numbers answer ≡ refusal_numbers refusal) ↔ (answer ≡ Turned refusal)
+PlannedNumbersSay = (answer : Result Plan Refusal) (refusal : Refusal) → (planned_numbers answer ≡ refusal_numbers refusal) ↔ (answer ≡ Err refusal)
 
 -- A place of 5,124 bytes has room for every plan of either type.
 abbrev pub enough_bytes : ℕ

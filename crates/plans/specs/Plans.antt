@@ -1,5 +1,5 @@
 -- The planners' answers: rules kept, commands and bytes written, and every byte of the lent place. Assumes nothing.
-use Rattle.std.specs.Prelude.{ℕ, ◌+◌, ◌*◌, ◌≡◌, Bool, true, false, List, [], length}
+use Rattle.std.specs.Prelude.{Result, Ok, Err, ℕ, ◌+◌, ◌*◌, ◌≡◌, List, [], length}
 use Rattle.std.proofs.Math.Option.{Option, none, some}
 use Rattle.policy.specs.AppendDelete.{kept_run, plan_one}
 use Rattle.policy.specs.InsertDeleteMove.{kept_two, plan_two}
@@ -9,8 +9,7 @@ use Rattle.deployment.specs.Contents.{Contents}
 use Rattle.deployment.specs.File.{field_bytes, script_tag}
 use Rattle.deployment.specs.FieldValues.{Left, filled, sent}
 use Rattle.plans.specs.declared.Plan.{Plan}
-use Rattle.plans.specs.declared.Planned.{Planned}
-use Rattle.plans.specs.declared.Planned.TheVariants.{Done, Turned}
+use Rattle.deployment.specs.declared.Refusal.{Refusal}
 
 -- a script and how many rules it keeps
 pub record Made : Type 0 where
@@ -39,9 +38,9 @@ unfoldable pub made_two : Contents → Made
 made_two c = made_two_of c.initial c.target c.keep
 
 -- "told whether a keep list is absent or empty": the keep list of a field value
-unfoldable pub keep_of : Bool → List ℕ → Option (List ℕ)
-keep_of true value = some (numbers_of value)
-keep_of false value = none
+unfoldable pub keep_of : Option (List ℕ) → Option (List ℕ)
+keep_of none = none
+keep_of (some value) = some (numbers_of value)
 
 -- "a script field": tag 05, length, type byte, records
 unfoldable pub script_field : Made → List ℕ
@@ -61,13 +60,13 @@ pub record Placed (made : Made) (plan : Plan) (before after : List ℕ) : Type 0
   pub place : after ≡ filled before (script_field made)
 
 -- the numbers of a refusal to plan; none where there is a plan
-unfoldable pub planned_numbers : Planned → List ℕ
-planned_numbers (Done plan) = []
-planned_numbers (Turned refusal) = refusal_numbers refusal
+unfoldable pub planned_numbers : Result Plan Refusal → List ℕ
+planned_numbers (Ok plan) = []
+planned_numbers (Err refusal) = refusal_numbers refusal
 
 -- "and last 13": a plan and its field
-unfoldable pub sent_plan : Plan → List ℕ → List ℕ → Left Planned
-sent_plan plan field place = sent Turned (Done plan) field place
+unfoldable pub sent_plan : Plan → List ℕ → List ℕ → Left (Result Plan Refusal)
+sent_plan plan field place = sent Err (Ok plan) field place
 
-unfoldable pub placed_plan : Made → List ℕ → Left Planned
+unfoldable pub placed_plan : Made → List ℕ → Left (Result Plan Refusal)
 placed_plan made place = sent_plan (plan_of made) (script_field made) place

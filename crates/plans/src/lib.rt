@@ -19,22 +19,16 @@ pub struct Plan {
     pub bytes: usize,
 }
 
-#[derive(Clone, Copy)]
-pub enum Planned {
-    Done(Plan),
-    Turned(Refusal),
-}
-
 // "On success the output fills the first bytes and the rest keep theirs"; 13 at the bytes needed.
-pub fn send(plan: Plan, field: &[u8], place: &mut [u8]) -> Planned
+pub fn send(plan: Plan, field: &[u8], place: &mut [u8]) -> Result<Plan, Refusal>
     ensures { left_by result place.new ≡ sent_plan plan field.now place.old }
 {
     if place.len() < field.len() {
-        return Planned::Turned(Refusal {
+        return Err(Refusal {
             why: Why::Room,
             at: field.len(),
         });
     }
     store(place, 0, field);
-    Planned::Done(plan)
+    Ok(plan)
 }

@@ -23,3 +23,4 @@ pub mod InsertDeleteMove
 pub mod Plans
 pub mod Examples
 pub mod Traps
+pub mod Answers

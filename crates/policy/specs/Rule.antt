@@ -2,7 +2,7 @@
 -- The theory never opens this file: it takes the match as a parameter (Policy.antt). Assumes nothing.
 use Rattle.std.specs.Prelude.{ℕ, zero, suc, Bool, true, false, ◌&&◌, List, [], ◌∷◌, leb}
 use Rattle.policy.specs.declared.Action.{Action}
-use Rattle.policy.specs.declared.Action.TheVariants.{Deny}
+use Rattle.policy.specs.declared.Action.TheVariants.{Deny, Permit}
 use Rattle.policy.specs.declared.Flow.{Flow}
 
 -- "an inclusive range"
@@ -22,6 +22,11 @@ pub record Rule : Type 0 where
 -- "each number lies in its range"
 unfoldable pub lies : ℕ → Range → Bool
 lies n range = leb range.low n && leb n range.high
+
+-- "action (0 deny, 1 permit)"
+unfoldable pub action_number : Action → ℕ
+action_number Deny = 0
+action_number Permit = 1
 
 -- "It matches a flow when each number lies in its range. Ports are compared for every protocol."
 unfoldable pub matches : Rule → Flow → Bool

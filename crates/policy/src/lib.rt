@@ -3,18 +3,34 @@
 
 #![tactic(auto)]
 
+ghost use Rattle.std.specs.Prelude.{◌≡◌};
+ghost use Rattle.policy.specs.Command.{fault_number};
+ghost use Rattle.policy.specs.Rule.{action_number};
+
 // "at most 1,024 rules in the catalogue"; a running list has no more, "since its rules differ"
 pub const MOST_RULES: usize = 1024;
 
 // What a rule says, and what a flow gets.
-#[derive(Clone, Copy)]
+#[derive(Clone, Copy, Debug, PartialEq, Eq)]
 pub enum Action {
     Deny,
     Permit,
 }
 
+// "action (0 deny, 1 permit)"
+impl From<Action> for u8 {
+    ghost from_gives = { λ action n. n ≡ action_number action };
+
+    fn from(action: Action) -> u8 {
+        match action {
+            Action::Deny => 0,
+            Action::Permit => 1,
+        }
+    }
+}
+
 // "A flow is five numbers."
-#[derive(Clone, Copy)]
+#[derive(Clone, Copy, Debug, PartialEq, Eq)]
 pub struct Flow {
     pub protocol: u8,
     pub source: u32,
@@ -24,14 +40,14 @@ pub struct Flow {
 }
 
 // "The answer is the action and the place of that rule, places counted from 1, or place 0 for the default."
-#[derive(Clone, Copy)]
+#[derive(Clone, Copy, Debug, PartialEq, Eq)]
 pub struct Decision {
     pub action: Action,
     pub place: usize,
 }
 
 // "Each command is an enum case with its own numbers": `app r`, `del r`, `ins i r`, `del i`, `mov i j`.
-#[derive(Clone, Copy)]
+#[derive(Clone, Copy, Debug, PartialEq, Eq)]
 pub enum Command {
     App(u16),
     DelRule(u16),
@@ -58,7 +74,7 @@ impl Command {
 }
 
 // Why a command fails: numbers 20 to 23.
-#[derive(Clone, Copy)]
+#[derive(Clone, Copy, Debug, PartialEq, Eq)]
 pub enum Fault {
     Present,
     Absent,
@@ -66,8 +82,22 @@ pub enum Fault {
     Number,
 }
 
+// The table's number of each.
+impl From<Fault> for u8 {
+    ghost from_gives = { λ fault n. n ≡ fault_number fault };
+
+    fn from(fault: Fault) -> u8 {
+        match fault {
+            Fault::Present => 20,
+            Fault::Absent => 21,
+            Fault::Place => 22,
+            Fault::Number => 23,
+        }
+    }
+}
+
 // What the judge says: numbers 20 to 24, 30, 31 and 32.
-#[derive(Clone, Copy)]
+#[derive(Clone, Copy, Debug, PartialEq, Eq)]
 pub enum Verdict {
     Broken(Fault, usize),
     Elsewhere(usize),

@@ -2,8 +2,7 @@
 -- catalogue so far, and each further one stands behind them. Assumes nothing.
 use Prim.Native.Nat.{ℕ, suc}
 use native.Mathlib.Omega.{arith}
-use mathlib.Core.Path.{◌≡◌, refl, sym, ◌∙◌, ap₂}
-use mathlib.Core.Bool.{Bool}
+use mathlib.Core.Path.{◌≡◌, refl, sym, ◌∙◌, ap, ap₂}
 use mathlib.Core.List.{List, [], ◌∷◌, ◌++◌, map, append_assoc, append-nil}
 use mathlib.Core.Option.{Option, none, some}
 use lib.ListN.{length, length-append}
@@ -12,16 +11,15 @@ use Rattle.deployment.specs.Bytes.{joined}
 use Rattle.deployment.specs.Values.{rule_bytes, numbers_bytes, default_bytes, default_field, script_bytes}
 use Rattle.deployment.specs.Contents.{Contents}
 use Rattle.deployment.specs.File.{accepted, read_file}
-use Rattle.deployment.specs.Properties.{AreBytes, IfThere}
+use Rattle.deployment.specs.Properties.{AreBytes}
 use Rattle.deployment.specs.Claims.{values_of}
 use Rattle.deployment.proofs.Bytes.{from_the_end}
 use Rattle.deployment.proofs.Fields.{joined_snoc, map_snoc}
-use Rattle.values.specs.Answers.{given, values_given, there}
-use Rattle.reader.specs.Answers.{value_at, rules_gathered, values_gathered}
-use Rattle.reader.specs.Claims.{ListStands, DefaultStands, ScriptStands, Stands, GatheredFile}
+use Rattle.reader.specs.Answers.{value_at, value_given, rules_gathered, values_gathered}
+use Rattle.reader.specs.Claims.{ListStands, DefaultStands, ScriptStands, StandsIf, Stands, GatheredFile}
 use Rattle.reader.specs.declared.Span.{Span}
 use Rattle.reader.specs.declared.Layout.{Layout}
-use Rattle.reader.specs.declared.FileRead.TheVariants.{Accepted}
+use Rattle.std.specs.Prelude.{Ok, Option as CodeOption, Some, None}
 use Rattle.reader.proofs.FileAnswers.{file_holds}
 use Rattle.reader.proofs.file.read.Reads as read
 
@@ -46,24 +44,24 @@ module _ (file : List ℕ) (layout : Layout) (c : Contents) (stands : Stands fil
   rules_gathered_lem = rw stands.count (front_gathered c.catalogue [] (sym (append-nil c.catalogue)))
 
   -- a value that may be absent
-  if_there_gathered : {A : Type 0} (written : A → List ℕ) (Lies : A → Type 0) (is : Bool) (span : Span)
-      → ((a : A) → Lies a → value_at span file ≡ written a) → (o : Option A) → is ≡ there o → IfThere Lies o
-      → given is (value_at span file) ≡ elim o [ none ↦ none | some a ↦ some (written a) ]
-  unfolding given there
-  if_there_gathered written Lies is span bytes none has lies = rw has
-  if_there_gathered written Lies is span bytes (some a) has lies = rw (has, bytes a lies)
+  given_gathered : {A : Type 0} (written : A → List ℕ) (StandsAt : Span → A → Type 0)
+      → ((span : Span) (a : A) → StandsAt span a → value_at span file ≡ written a)
+      → (place : CodeOption Span) (o : Option A) → StandsIf StandsAt place o
+      → value_given place file ≡ elim o [ none ↦ none | some a ↦ some (written a) ]
+  unfolding value_given
+  given_gathered written StandsAt bytes None none stand = refl
+  given_gathered written StandsAt bytes None (some a) stand = elim stand [ ]
+  given_gathered written StandsAt bytes (Some span) none stand = elim stand [ ]
+  given_gathered written StandsAt bytes (Some span) (some a) stand = ap some (bytes span a stand)
 
   values_gathered_lem : values_gathered layout file ≡ values_of c
-  unfolding values_gathered values_given values_of
+  unfolding values_gathered values_of
   values_gathered_lem =
       let initial = stands.initial.bytes in
       let target = stands.target.bytes in
-      let default = if_there_gathered default_bytes (DefaultStands file layout.default) layout.has_default layout.default
-      (λ action lies. lies.bytes) (default_field c.default) stands.has_default stands.default in
-      let keep = if_there_gathered numbers_bytes (ListStands file layout.keep) layout.has_keep layout.keep
-      (λ l lies. lies.bytes) c.keep stands.has_keep stands.keep in
-      let script = if_there_gathered script_bytes (ScriptStands file layout.script) layout.has_script layout.script
-      (λ s lies. lies.bytes) c.script stands.has_script stands.script in
+      let default = given_gathered default_bytes (DefaultStands file) (λ span action lies. lies.bytes) layout.default (default_field c.default) stands.default in
+      let keep = given_gathered numbers_bytes (ListStands file) (λ span l lies. lies.bytes) layout.keep c.keep stands.keep in
+      let script = given_gathered script_bytes (ScriptStands file) (λ span s lies. lies.bytes) layout.script c.script stands.script in
       λ j. record {
         rules = rules_gathered_lem j;
         initial = initial j;
@@ -79,6 +77,6 @@ gathered_file file layout b e =
     (held.contents, held.is, values_gathered_lem file layout held.contents held.stands)
 
 -- The claim, of `read`.
-pub an_accepted_file_is_gathered : (κ : _) (a : _) (layout : Layout) (e : _) → read.Post κ a (Accepted layout) e
+pub an_accepted_file_is_gathered : (κ : _) (a : _) (layout : Layout) (e : _) → read.Post κ a (Ok layout) e
     → AreBytes a.0.now → (c : Contents) × (read_file a.0.now ≡ accepted c) × (values_gathered layout a.0.now ≡ values_of c)
 an_accepted_file_is_gathered κ a layout e p b = gathered_file a.0.now layout b (sym p)

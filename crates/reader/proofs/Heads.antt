@@ -20,7 +20,7 @@ use Rattle.deployment.proofs.Bytes.{length_part}
 use Rattle.deployment.proofs.Records.{number_one, part_elements, number_there}
 use Rattle.reader.specs.Steps.{layout_so_far, progress_of, Begun, head_shown}
 use Rattle.reader.specs.declared.file.Progress.{Progress}
-use Rattle.reader.specs.declared.file.Head.TheVariants as head
+use Rattle.std.specs.Prelude.{Ok, Err}
 
 pub eqb_swap : (a b : ℕ) → eqb a b ≡ eqb b a
 eqb_swap a b =
@@ -53,53 +53,6 @@ module _ (file : List ℕ) (at : ℕ) (headed : 3 ≤ length file - at) where
   unfolding part
   size_at = rw drop-drop (sym (number_there (at + 1) 2 file (omega arith)))
 
--- The tests of a head, in their order.
-module _ (file : List ℕ) (at last rules : ℕ) (f : Fields) (same-last : last ≡ last_tag f) (same-rules : rules ≡ length f.catalogue) where
-  pub head_cut : length file - at < 3 → head.Bad Cut ≡ head_shown (field_read f (drop at file))
-  unfolding field_read head_shown
-  head_cut h = rw (lt-leb 3 (length (drop at file)) (rw length-drop h))
-
-  module _ (headed : 3 ≤ length file - at) where
-    headed_test : leb 3 (length (drop at file)) ≡ true
-    headed_test = le-leb 3 (length (drop at file)) (rw length-drop headed)
-
-    stands_test : mem (tag_of (drop at file)) (tags_after (last_tag f)) ≡ mem (get_or file at 0) (tags_after last)
-    stands_test = rw (tag_at file at headed, same-last)
-
-    pub head_tag : mem (get_or file at 0) (tags_after last) ≡ false → head.Bad Tag ≡ head_shown (field_read f (drop at file))
-    unfolding field_read head_shown
-    head_tag e = rw (headed_test, stands_test, e)
-
-    module _ (stands : mem (get_or file at 0) (tags_after last) ≡ true) where
-      pub head_too_many : (eqb (get_or file at 0) rule_tag && leb most_rules rules) ≡ true
-          → head.Bad TooMany ≡ head_shown (field_read f (drop at file))
-      unfolding field_read head_shown
-      head_too_many e = rw (headed_test, stands_test, stands, tag_at file at headed, ← same-rules, e)
-
-      module _ (few : (eqb (get_or file at 0) rule_tag && leb most_rules rules) ≡ false) (size : ℕ) (is : size ≡ number_at (at + 1) 2 file) where
-        same_size : size_of (drop at file) ≡ size
-        same_size = size_at file at headed ∙ sym is
-
-        pub head_length : length_fits (get_or file at 0) size ≡ false → head.Bad Length ≡ head_shown (field_read f (drop at file))
-        unfolding field_read head_shown
-        head_length e = rw (headed_test, stands_test, stands, tag_at file at headed, ← same-rules, few, same_size, e)
-
-        module _ (fits : length_fits (get_or file at 0) size ≡ true) where
-          pub head_short : length file - at < 3 + size → head.Bad Cut ≡ head_shown (field_read f (drop at file))
-          unfolding field_read head_shown
-          head_short h =
-              let short = lt-leb (3 + size) (length (drop at file)) (rw length-drop h) in
-              rw (headed_test, stands_test, stands, tag_at file at headed, ← same-rules, few, same_size, fits, short)
-
-          pub head_whole : 3 + size ≤ length file - at → head.Field (get_or file at 0) size ≡ head_shown (field_read f (drop at file))
-          unfolding field_read head_shown
-          head_whole h =
-              let left = drop at file in
-              let long : 3 + size ≤ length left = rw length-drop h in
-              let whole = le-leb (3 + size) (length left) long in
-              rw (headed_test, stands_test, stands, tag_at file at headed, ← same-rules, few, same_size, fits, whole)
-              (rw (length_part 3 size left long))
-
 -- What the reader knows of the fields so far.
 module _ (file : List ℕ) (progress : Progress) (f : Fields) (b : Begun file progress f) where
   pub same_tag : progress.last ≡ last_tag f
@@ -112,3 +65,50 @@ module _ (file : List ℕ) (progress : Progress) (f : Fields) (b : Begun file pr
 
   pub few_rules : progress.layout.rules ≤ most_rules
   few_rules = omega (arith, same_count, b.readable.catalogue.few)
+
+-- The tests of a head, in their order.
+module _ (file : List ℕ) (progress : Progress) (f : Fields) (b : Begun file progress f) where
+  pub head_cut : length file - progress.at < 3 → Err Cut ≡ head_shown (field_read f (drop progress.at file))
+  unfolding field_read head_shown
+  head_cut h = rw (lt-leb 3 (length (drop progress.at file)) (rw length-drop h))
+
+  module _ (headed : 3 ≤ length file - progress.at) where
+    headed_test : leb 3 (length (drop progress.at file)) ≡ true
+    headed_test = le-leb 3 (length (drop progress.at file)) (rw length-drop headed)
+
+    stands_test : mem (tag_of (drop progress.at file)) (tags_after (last_tag f)) ≡ mem (get_or file progress.at 0) (tags_after progress.last)
+    stands_test = rw (tag_at file progress.at headed, same_tag file progress f b)
+
+    pub head_tag : mem (get_or file progress.at 0) (tags_after progress.last) ≡ false → Err Tag ≡ head_shown (field_read f (drop progress.at file))
+    unfolding field_read head_shown
+    head_tag e = rw (headed_test, stands_test, e)
+
+    module _ (stands : mem (get_or file progress.at 0) (tags_after progress.last) ≡ true) where
+      pub head_too_many : (eqb (get_or file progress.at 0) rule_tag && leb most_rules progress.layout.rules) ≡ true
+          → Err TooMany ≡ head_shown (field_read f (drop progress.at file))
+      unfolding field_read head_shown
+      head_too_many e = rw (headed_test, stands_test, stands, tag_at file progress.at headed, ← same_count file progress f b, e)
+
+      module _ (few : (eqb (get_or file progress.at 0) rule_tag && leb most_rules progress.layout.rules) ≡ false) (size : ℕ) (is : size ≡ number_at (progress.at + 1) 2 file) where
+        same_size : size_of (drop progress.at file) ≡ size
+        same_size = size_at file progress.at headed ∙ sym is
+
+        pub head_length : length_fits (get_or file progress.at 0) size ≡ false → Err Length ≡ head_shown (field_read f (drop progress.at file))
+        unfolding field_read head_shown
+        head_length e = rw (headed_test, stands_test, stands, tag_at file progress.at headed, ← same_count file progress f b, few, same_size, e)
+
+        module _ (fits : length_fits (get_or file progress.at 0) size ≡ true) where
+          pub head_short : length file - progress.at < 3 + size → Err Cut ≡ head_shown (field_read f (drop progress.at file))
+          unfolding field_read head_shown
+          head_short h =
+              let short = lt-leb (3 + size) (length (drop progress.at file)) (rw length-drop h) in
+              rw (headed_test, stands_test, stands, tag_at file progress.at headed, ← same_count file progress f b, few, same_size, fits, short)
+
+          pub head_whole : 3 + size ≤ length file - progress.at → Ok (record { tag = get_or file progress.at 0; size = size }) ≡ head_shown (field_read f (drop progress.at file))
+          unfolding field_read head_shown
+          head_whole h =
+              let left = drop progress.at file in
+              let long : 3 + size ≤ length left = rw length-drop h in
+              let whole = le-leb (3 + size) (length left) long in
+              rw (headed_test, stands_test, stands, tag_at file progress.at headed, ← same_count file progress f b, few, same_size, fits, whole)
+              (rw (length_part 3 size left long))

@@ -3,7 +3,6 @@
 use Prim.Native.Nat.{ℕ, ◌+◌}
 use native.Mathlib.Omega.{arith}
 use mathlib.Core.Path.{◌≡◌, refl, ◌∙◌, ap}
-use mathlib.Core.Bool.{Bool, true}
 use mathlib.Core.List.{List, [], ◌∷◌, ◌++◌}
 use lib.ListN.{length, length-append}
 use Rattle.deployment.specs.Checked.{Checked, good, bad, ◌>>=◌}
@@ -45,8 +44,8 @@ use Rattle.deployment.proofs.Fields.{
   bytes_with_script,
 }
 use Rattle.deployment.proofs.ReadBack.{length_field}
-use Rattle.values.specs.Answers.{there}
-use Rattle.reader.specs.Answers.{span_from, span_if, end_of, keep_bytes, action_bytes, command_bytes}
+use Rattle.std.specs.Prelude.{Option as CodeOption, Some}
+use Rattle.reader.specs.Answers.{span_from, span_if, span_given, end_of, keep_bytes, action_bytes, command_bytes}
 use Rattle.reader.specs.Steps.{layout_so_far, More, a_rule, an_initial, a_target, a_default, a_keep, a_script}
 use Rattle.reader.specs.declared.Layout.{Layout}
 use Rattle.reader.specs.declared.Span.{Span}
@@ -80,62 +79,52 @@ more_stands (a_keep k h) = h
 more_stands (a_script s h) = h
 
 -- a layout, place by place
-abbrev places : ℕ → Span → Span → Bool → Span → Bool → Span → Bool → Span → Layout
-places rules initial target has-default default has-keep keep has-script script =
-    record {
-      rules = rules;
-      initial = initial;
-      target = target;
-      has_default = has-default;
-      default = default;
-      has_keep = has-keep;
-      keep = keep;
-      has_script = has-script;
-      script = script;
-    }
+abbrev places : ℕ → Span → Span → CodeOption Span → CodeOption Span → CodeOption Span → Layout
+places rules initial target default keep script =
+    record { rules = rules; initial = initial; target = target; default = default; keep = keep; script = script }
 
 -- the places with that of one more value, by its tag
 module _ (l : Layout) (span : Span) where
   pub placed_rule : {f g : Fields} {value : List ℕ} → More f rule_tag value g → l ≡ layout_so_far f
-      → places (l.rules + 1) l.initial l.target l.has_default l.default l.has_keep l.keep l.has_script l.script
+      → places (l.rules + 1) l.initial l.target l.default l.keep l.script
       ≡ layout_so_far g
-  unfolding layout_so_far keep_bytes action_bytes command_bytes span_if end_of there
+  unfolding layout_so_far keep_bytes action_bytes command_bytes span_if span_given end_of
   placed_rule {f} (a_rule rule h) known =
       let n = before_rule f h in rw (known, length-append f.catalogue (rule ∷ []), n.0, n.1, n.2, n.3, n.4)
 
   pub placed_initial : {f g : Fields} {value : List ℕ} → More f initial_tag value g → l ≡ layout_so_far f
       → span ≡ span_from (length (fields_bytes f)) value
-      → places l.rules span l.target l.has_default l.default l.has_keep l.keep l.has_script l.script
+      → places l.rules span l.target l.default l.keep l.script
       ≡ layout_so_far g
-  unfolding layout_so_far keep_bytes action_bytes command_bytes span_if end_of there
+  unfolding layout_so_far keep_bytes action_bytes command_bytes span_if span_given end_of
   placed_initial {f} (an_initial i h) known w = let n = before_initial f h in rw (known, w, fields_end f, n.0, n.1, n.2, n.3, n.4)
 
   pub placed_target : {f g : Fields} {value : List ℕ} → More f target_tag value g → l ≡ layout_so_far f
       → span ≡ span_from (length (fields_bytes f)) value
-      → places l.rules l.initial span l.has_default l.default l.has_keep l.keep l.has_script l.script
+      → places l.rules l.initial span l.default l.keep l.script
       ≡ layout_so_far g
-  unfolding layout_so_far keep_bytes action_bytes command_bytes span_if end_of there
+  unfolding layout_so_far keep_bytes action_bytes command_bytes span_if span_given end_of
   placed_target {f} (a_target t h) known w = let n = before_target f h in rw (known, w, fields_end f, n.0, n.1, n.2, n.3)
 
   pub placed_default : {f g : Fields} {value : List ℕ} → More f default_tag value g → l ≡ layout_so_far f
       → span ≡ span_from (length (fields_bytes f)) value
-      → places l.rules l.initial l.target true span l.has_keep l.keep l.has_script l.script
+      → places l.rules l.initial l.target (Some span) l.keep l.script
       ≡ layout_so_far g
-  unfolding layout_so_far keep_bytes action_bytes command_bytes span_if end_of there
+  unfolding layout_so_far keep_bytes action_bytes command_bytes span_if span_given end_of
   placed_default {f} (a_default d h) known w = let n = before_default f h in rw (known, w, fields_end f, n.0, n.1, n.2)
 
   pub placed_keep : {f g : Fields} {value : List ℕ} → More f keep_tag value g → l ≡ layout_so_far f
       → span ≡ span_from (length (fields_bytes f)) value
-      → places l.rules l.initial l.target l.has_default l.default true span l.has_script l.script
+      → places l.rules l.initial l.target l.default (Some span) l.script
       ≡ layout_so_far g
-  unfolding layout_so_far keep_bytes action_bytes command_bytes span_if end_of there
+  unfolding layout_so_far keep_bytes action_bytes command_bytes span_if span_given end_of
   placed_keep {f} (a_keep k h) known w = let n = before_keep f h in rw (known, w, fields_end f, n.0, n.1)
 
   pub placed_script : {f g : Fields} {value : List ℕ} → More f script_tag value g → l ≡ layout_so_far f
       → span ≡ span_from (length (fields_bytes f)) value
-      → places l.rules l.initial l.target l.has_default l.default l.has_keep l.keep true span
+      → places l.rules l.initial l.target l.default l.keep (Some span)
       ≡ layout_so_far g
-  unfolding layout_so_far keep_bytes action_bytes command_bytes span_if end_of there
+  unfolding layout_so_far keep_bytes action_bytes command_bytes span_if span_given end_of
   placed_script {f} (a_script s h) known w = let n = before_script f h in rw (known, w, fields_end f, n)
 
 -- Fields with one more, where the tests of its value passed.

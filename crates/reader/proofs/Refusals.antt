@@ -15,19 +15,19 @@ use Rattle.deployment.proofs.Values.{by_option}
 use Rattle.deployment.proofs.Reader.{refusals}
 use Rattle.reader.specs.Answers.{file_read, file_numbers}
 use Rattle.reader.specs.Claims.{FileNumbersSay, RefusedFile, Scriptless, RefusedToJudge}
-use Rattle.reader.specs.declared.FileRead.{FileRead}
-use Rattle.reader.specs.declared.FileRead.TheVariants.{Accepted, Refused}
+use Rattle.std.specs.Prelude.{Result, Ok, Err}
+use Rattle.reader.specs.declared.Layout.{Layout}
 use Rattle.reader.proofs.ShownReadings.{shown_numbers}
 use Rattle.reader.proofs.file.read.Reads as read
 use Rattle.reader.proofs.file.read_to_judge.Reads as read-to-judge
 
 pub file_numbers_say : FileNumbersSay
 unfolding file_numbers
-file_numbers_say = numbers_say file_numbers Refused (λ r. refl) cases
+file_numbers_say = numbers_say file_numbers Err (λ r. refl) cases
   where
-    cases : (answer : FileRead) → (file_numbers answer ≡ []) ⊎ ((r : Refusal) × (answer ≡ Refused r))
-    cases (Accepted layout) = inl refl
-    cases (Refused r) = inr (r, refl)
+    cases : (answer : Result Layout Refusal) → (file_numbers answer ≡ []) ⊎ ((r : Refusal) × (answer ≡ Err r))
+    cases (Ok layout) = inl refl
+    cases (Err r) = inr (r, refl)
 
 pub refused_file : RefusedFile
 unfolding file_read
@@ -56,11 +56,11 @@ refused_to_judge file number at b =
     lacks (twelve, (c, read, absent, there)) = rw (read, needs_script, absent, twelve, there)
 
 -- The same of the entries: a row holds, so `read` answers its number and the field's position, and conversely.
-pub read_answers_the_row : (κ : _) (a : _) (r : FileRead) (e : _) → read.Post κ a r e → AreBytes a.0.now → (number at : ℕ)
+pub read_answers_the_row : (κ : _) (a : _) (r : Result Layout Refusal) (e : _) → read.Post κ a r e → AreBytes a.0.now → (number at : ℕ)
     → (file_numbers r ≡ number ∷ at ∷ []) ↔ TurnedAway a.0.now number at
 read_answers_the_row κ a r e p b number at = rw p (refused_file a.0.now number at b)
 
-pub read_to_judge_answers_the_row : (κ : _) (a : _) (r : FileRead) (e : _) → read-to-judge.Post κ a r e → AreBytes a.0.now
+pub read_to_judge_answers_the_row : (κ : _) (a : _) (r : Result Layout Refusal) (e : _) → read-to-judge.Post κ a r e → AreBytes a.0.now
     → (number at : ℕ)
     → (file_numbers r ≡ number ∷ at ∷ []) ↔ (TurnedAway a.0.now number at ⊎ ((number ≡ 12) × Scriptless a.0.now at))
 read_to_judge_answers_the_row κ a r e p b number at = rw p (refused_to_judge a.0.now number at b)

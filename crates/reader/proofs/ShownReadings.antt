@@ -10,18 +10,18 @@ use Rattle.deployment.specs.File.{Reading, accepted, refused, reading_numbers, r
 use Rattle.deployment.specs.declared.Refusal.{Refusal}
 use Rattle.reader.specs.Answers.{layout_of, shown, file_read, file_numbers}
 use Rattle.reader.specs.declared.Layout.{Layout}
-use Rattle.reader.specs.declared.FileRead.TheVariants.{Accepted, Refused}
+use Rattle.std.specs.Prelude.{Ok, Err}
 
-pub shown_refused : (reading : Reading) (refusal : Refusal) → Refused refusal ≡ shown reading → reading ≡ refused refusal
+pub shown_refused : (reading : Reading) (refusal : Refusal) → Err refusal ≡ shown reading → reading ≡ refused refusal
 unfolding shown
 shown_refused (accepted c) refusal e = absurd (let z : ◌≡◌ {A = ℕ} 0 1 = cc in omega arith)
 shown_refused (refused other) refusal e = ap refused (cc)
 
-pub file_refused : (file : List ℕ) (refusal : Refusal) → Refused refusal ≡ file_read file → read_file file ≡ refused refusal
+pub file_refused : (file : List ℕ) (refusal : Refusal) → Err refusal ≡ file_read file → read_file file ≡ refused refusal
 unfolding file_read
 file_refused file = shown_refused (read_file file)
 
-pub shown_accepted : (reading : Reading) (layout : Layout) → Accepted layout ≡ shown reading
+pub shown_accepted : (reading : Reading) (layout : Layout) → Ok layout ≡ shown reading
     → (c : Contents) × (layout ≡ layout_of c) × (reading ≡ accepted c)
 unfolding shown
 shown_accepted (refused refusal) layout e = absurd (let z : ◌≡◌ {A = ℕ} 0 1 = cc in omega arith)

@@ -14,29 +14,29 @@ use Rattle.deployment.specs.File.{Reading, accepted, refused, read_file, needs_s
 use Rattle.deployment.specs.declared.Refusal.{Refusal}
 use Rattle.deployment.specs.declared.Why.TheVariants.{NoScript}
 use Rattle.deployment.proofs.Values.{by_option}
-use Rattle.values.specs.Answers.{there}
-use Rattle.reader.specs.Answers.{layout_of, shown, file_read}
+use Rattle.reader.specs.Answers.{command_bytes, span_given, layout_of, shown, file_read}
 use Rattle.reader.specs.declared.Layout.{Layout}
-use Rattle.reader.specs.declared.FileRead.TheVariants.{Accepted, Refused}
+use Rattle.std.specs.Prelude.{Ok, Err, is_some}
 use Rattle.reader.proofs.ShownReadings.{file_refused, shown_accepted}
 
 -- a script that may be there
 asked : (size : ℕ) (c : Contents) (script : Option Script) → Reading
 asked size c script = elim script [ some s ↦ accepted c | none ↦ refused (record { why = NoScript; at = size }) ]
 
-without : (size : ℕ) (c : Contents) (script : Option Script) → there script ≡ false
+without : (size end : ℕ) (c : Contents) (script : Option Script) → is_some (span_given end (command_bytes script)) ≡ false
     → asked size c script ≡ refused (record { why = NoScript; at = size })
-unfolding asked there
-without size c none e = refl
-without size c (some s) e = never refl e
+unfolding asked span_given command_bytes
+without size end c none e = refl
+without size end c (some s) e = never refl e
 
-with_one : (size : ℕ) (c : Contents) (script : Option Script) → there script ≡ true → asked size c script ≡ accepted c
-unfolding asked there
-with_one size c none e = never e refl
-with_one size c (some s) e = refl
+with_one : (size end : ℕ) (c : Contents) (script : Option Script) → is_some (span_given end (command_bytes script)) ≡ true
+    → asked size c script ≡ accepted c
+unfolding asked span_given command_bytes
+with_one size end c none e = never e refl
+with_one size end c (some s) e = refl
 
 module _ (file : List ℕ) where
-  pub refused_too : (refusal : Refusal) → Refused refusal ≡ file_read file → Refused refusal ≡ shown (read_to_judge file)
+  pub refused_too : (refusal : Refusal) → Err refusal ≡ file_read file → Err refusal ≡ shown (read_to_judge file)
   unfolding shown read_to_judge needs_script
   refused_too refusal e = rw (file_refused file refusal e)
 
@@ -52,22 +52,22 @@ module _ (file : List ℕ) where
           (λ lacks. absurd (let z : ◌≡◌ {A = ℕ} 0 1 = cc (rw lacks at e) in omega arith))
           (λ s has. let same : d ≡ c = cc (rw has at e) in (ap accepted same, (s, rw same at has)))
 
-  module _ (layout : Layout) (e : Accepted layout ≡ file_read file) where
+  module _ (layout : Layout) (e : Ok layout ≡ file_read file) where
     -- the contents, whose script the layout speaks of
     contents : (c : Contents) × (layout ≡ layout_of c) × (read_to_judge file ≡ asked (length file) c c.script)
     unfolding file_read read_to_judge needs_script asked
     contents = let (c, same, read) = shown_accepted (read_file file) layout e in (c, same, ap (needs_script (length file)) read)
 
-    pub no_script : layout.has_script ≡ false → Refused (record { why = NoScript; at = length file }) ≡ shown (read_to_judge file)
+    pub no_script : is_some layout.script ≡ false → Err (record { why = NoScript; at = length file }) ≡ shown (read_to_judge file)
     unfolding shown layout_of
     no_script lacks =
         let (c, same, read) = contents in
-        let missing : there c.script ≡ false = rw same at lacks in
-        ap shown (sym (read ∙ without (length file) c c.script missing))
+        let missing : is_some (layout_of c).script ≡ false = rw same at lacks in
+        ap shown (sym (read ∙ without (length file) _ c c.script missing))
 
-    pub has_script : layout.has_script ≡ true → Accepted layout ≡ shown (read_to_judge file)
+    pub has_script : is_some layout.script ≡ true → Ok layout ≡ shown (read_to_judge file)
     unfolding shown layout_of
     has_script has =
         let (c, same, read) = contents in
-        let found : there c.script ≡ true = rw same at has in
-        ap Accepted same ∙ ap shown (sym (read ∙ with_one (length file) c c.script found))
+        let found : is_some (layout_of c).script ≡ true = rw same at has in
+        ap Ok same ∙ ap shown (sym (read ∙ with_one (length file) _ c c.script found))

@@ -33,9 +33,12 @@ use Rattle.deployment.proofs.Records.{part_between}
 use Rattle.deployment.proofs.Values.{length_rule, map_back, rule_read_lem}
 use Rattle.deployment.proofs.Fields.{joined_append, before_rule}
 use Rattle.deployment.proofs.ReadBack.{length_field, rules_length, rule_fields_wide, rule_field}
-use Rattle.reader.specs.Answers.{value_at, span_from, absent, span_if, end_of, keep_bytes, action_bytes, command_bytes, rule_span}
+use Rattle.reader.specs.Answers.{value_at, value_given, span_from, absent, span_if, span_given, end_of, keep_bytes, action_bytes, command_bytes, rule_span}
 use Rattle.reader.specs.Steps.{layout_so_far}
 use Rattle.reader.specs.declared.Span.{Span}
+use Rattle.std.specs.Prelude.{Option as CodeOption, None, Some, MatchOption, IsSomeAnd}
+use Rattle.std.specs.Borrow.{Bor}
+use Rattle.deployment.specs.FieldValues.{lent}
 
 -- The part at a place, as code cuts it: from the place's start or the bytes' end, and as much as there is.
 pub cut_least : (span : Span) (bytes : List ℕ) (start size : ℕ) → start ≡ min span.start (length bytes)
@@ -58,6 +61,16 @@ cut_least span bytes start size from long =
     let past = leb-false span.start (length bytes) f in
     rw (drop_of_length-le bytes {i = start} (omega arith), drop_of_length-le bytes {i = span.start} (omega arith), take-nil, take-nil))
 
+-- What code lends of a place that may be absent.
+pub given_lent : (file : List ℕ) (place : CodeOption Span) (value : CodeOption (Bor (List ℕ))) (Lends : Span → Bor (List ℕ) → Type 0)
+    → MatchOption place (value ≡ None) (λ span. IsSomeAnd value (Lends span))
+    → ((span : Span) (part : Bor (List ℕ)) → Lends span part → part.now ≡ value_at span file)
+    → lent value ≡ value_given place file
+unfolding lent value_given
+given_lent file None value Lends same lends = rw same
+given_lent file (Some span) (Some value) Lends same lends = ap some (lends span value same)
+given_lent file (Some span) None Lends same lends = elim same [ ]
+
 -- A field that stands behind other bytes: its value, and where it ends.
 pub value_stands : (before : List ℕ) (tag : ℕ) (value after : List ℕ)
     → value_at (span_from (length before) value) (before ++ (field_bytes tag value ++ after)) ≡ value
@@ -76,11 +89,10 @@ module _ (before : List ℕ) (tag : ℕ) where
   module _ {A : Type 0} (written : A → List ℕ) (bytes : Option A → Option (List ℕ))
       (absent-bytes : bytes none ≡ none) (there-bytes : (a : A) → bytes (some a) ≡ some (written a)) where
     part_stands : (o : Option A) (after : List ℕ)
-        → value_at (span_if (length before) (bytes o)) (before ++ (if_there tag written o ++ after))
-        ≡ elim o [ none ↦ [] | some a ↦ written a ]
-    unfolding value_at span_if absent if_there part
+        → value_given (span_given (length before) (bytes o)) (before ++ (if_there tag written o ++ after)) ≡ bytes o
+    unfolding value_given span_given if_there
     part_stands none after = rw absent-bytes
-    part_stands (some a) after = rw (there-bytes a) (value_stands before tag (written a) after)
+    part_stands (some a) after = rw (there-bytes a) (ap some (value_stands before tag (written a) after))
 
     part_ends : (o : Option A) → length (before ++ if_there tag written o) ≡ end_of (length before) (bytes o)
     unfolding end_of if_there
@@ -88,15 +100,18 @@ module _ (before : List ℕ) (tag : ℕ) where
     part_ends (some a) =
         rw (there-bytes a) (omega (arith, length-append before (field_bytes tag (written a)), length_field tag (written a)))
 
+  pub keep_part_stands : (o : Option (List ℕ)) (after : List ℕ)
+      → value_given (span_given (length before) (keep_bytes o)) (before ++ (if_there tag numbers_bytes o ++ after)) ≡ keep_bytes o
+  unfolding keep_bytes
+  keep_part_stands = part_stands numbers_bytes keep_bytes refl (λ l. refl)
+
   pub action_stands : (o : Option Action) (after : List ℕ)
-      → value_at (span_if (length before) (action_bytes o)) (before ++ (if_there tag default_bytes o ++ after))
-      ≡ elim o [ none ↦ [] | some action ↦ default_bytes action ]
+      → value_given (span_given (length before) (action_bytes o)) (before ++ (if_there tag default_bytes o ++ after)) ≡ action_bytes o
   unfolding action_bytes
   action_stands = part_stands default_bytes action_bytes refl (λ a. refl)
 
   pub script_stands : (o : Option Script) (after : List ℕ)
-      → value_at (span_if (length before) (command_bytes o)) (before ++ (if_there tag script_bytes o ++ after))
-      ≡ elim o [ none ↦ [] | some script ↦ script_bytes script ]
+      → value_given (span_given (length before) (command_bytes o)) (before ++ (if_there tag script_bytes o ++ after)) ≡ command_bytes o
   unfolding command_bytes
   script_stands = part_stands script_bytes command_bytes refl (λ s. refl)
 
@@ -164,26 +179,24 @@ module _ (f : Fields) where
             ++ (if_there keep_tag numbers_bytes f.keep ++ (if_there script_tag script_bytes f.script ++ left))))
         regrouped = simp append_assoc
 
-    pub default_part_stands : value_at (layout_so_far f).default (fields_bytes f ++ left)
-        ≡ elim f.default [ none ↦ [] | some action ↦ default_bytes action ]
+    pub default_stands : value_given (layout_so_far f).default (fields_bytes f ++ left) ≡ action_bytes f.default
     unfolding layout_so_far fields_bytes
-    default_part_stands = rw (← target_end) (rw regrouped (action_stands (target_part f) default_tag f.default _))
+    default_stands = rw (← target_end) (rw regrouped (action_stands (target_part f) default_tag f.default _))
       where
         regrouped : fields_bytes f ++ left
             ≡ target_part f ++ (if_there default_tag default_bytes f.default
             ++ (if_there keep_tag numbers_bytes f.keep ++ (if_there script_tag script_bytes f.script ++ left)))
         regrouped = simp append_assoc
 
-    pub keep_stands : value_at (layout_so_far f).keep (fields_bytes f ++ left) ≡ numbers_bytes (listed f.keep)
+    pub keep_stands : value_given (layout_so_far f).keep (fields_bytes f ++ left) ≡ keep_bytes f.keep
     unfolding layout_so_far fields_bytes
-    keep_stands = rw (← default_end) (rw regrouped (list_stands (default_part f) keep_tag f.keep _))
+    keep_stands = rw (← default_end) (rw regrouped (keep_part_stands (default_part f) keep_tag f.keep _))
       where
         regrouped : fields_bytes f ++ left
             ≡ default_part f ++ (if_there keep_tag numbers_bytes f.keep ++ (if_there script_tag script_bytes f.script ++ left))
         regrouped = simp append_assoc
 
-    pub script_part_stands : value_at (layout_so_far f).script (fields_bytes f ++ left)
-        ≡ elim f.script [ none ↦ [] | some script ↦ script_bytes script ]
+    pub script_part_stands : value_given (layout_so_far f).script (fields_bytes f ++ left) ≡ command_bytes f.script
     unfolding layout_so_far fields_bytes
     script_part_stands = rw (← keep_end) (rw regrouped (script_stands (keep_part f) script_tag f.script left))
       where

@@ -1,5 +1,5 @@
 -- The reader's answers: where the values of an accepted file stand, or why it is turned away. Assumes nothing.
-use Rattle.std.specs.Prelude.{ℕ, zero, suc, ◌+◌, ◌*◌, List, [], ◌++◌, length}
+use Rattle.std.specs.Prelude.{Result, Ok, Err, Option as CodeOption, Some, None, ℕ, zero, suc, ◌+◌, ◌*◌, List, [], ◌++◌, length}
 use Rattle.std.proofs.Math.Option.{Option, none, some}
 use Rattle.deployment.specs.Checked.{refusal_numbers}
 use Rattle.deployment.specs.Bytes.{part}
@@ -8,11 +8,9 @@ use Rattle.deployment.specs.Values.{Script, rule_width, numbers_bytes, default_b
 use Rattle.deployment.specs.Contents.{Contents}
 use Rattle.deployment.specs.FieldValues.{FieldValues}
 use Rattle.deployment.specs.File.{Reading, accepted, refused, read_file, head_bytes}
-use Rattle.values.specs.Answers.{there, values_given}
 use Rattle.reader.specs.declared.Span.{Span}
 use Rattle.reader.specs.declared.Layout.{Layout}
-use Rattle.reader.specs.declared.FileRead.{FileRead}
-use Rattle.reader.specs.declared.FileRead.TheVariants.{Accepted, Refused}
+use Rattle.deployment.specs.declared.Refusal.{Refusal}
 
 -- "the part of the file that is its value"
 unfoldable pub value_at : Span → List ℕ → List ℕ
@@ -22,13 +20,26 @@ value_at span file = part span.start span.size file
 unfoldable pub span_from : ℕ → List ℕ → Span
 span_from end value = record { start = end + head_bytes; size = length value }
 
--- a value that isn't there
+-- nowhere: a value that hasn't been read
 unfoldable pub absent : Span
 absent = record { start = 0; size = 0 }
 
 unfoldable pub span_if : ℕ → Option (List ℕ) → Span
 span_if end none = absent
 span_if end (some value) = span_from end value
+
+-- the place of a value that may be absent, and the value there
+unfoldable pub span_given : ℕ → Option (List ℕ) → CodeOption Span
+span_given end none = None
+span_given end (some value) = Some (span_from end value)
+
+unfoldable pub value_given : CodeOption Span → List ℕ → Option (List ℕ)
+value_given None file = none
+value_given (Some span) file = some (value_at span file)
+
+unfoldable pub value_or_empty : CodeOption Span → List ℕ → List ℕ
+value_or_empty None file = []
+value_or_empty (Some span) file = value_at span file
 
 unfoldable pub end_of : ℕ → Option (List ℕ) → ℕ
 end_of end none = end
@@ -58,12 +69,9 @@ layout_of c =
       rules = length c.catalogue;
       initial = span_from rules_end (numbers_bytes c.initial);
       target = span_from initial_end (numbers_bytes c.target);
-      has_default = there (default_field c.default);
-      default = span_if target_end (action_bytes (default_field c.default));
-      has_keep = there c.keep;
-      keep = span_if default_end (keep_bytes c.keep);
-      has_script = there c.script;
-      script = span_if keep_end (command_bytes c.script);
+      default = span_given target_end (action_bytes (default_field c.default));
+      keep = span_given default_end (keep_bytes c.keep);
+      script = span_given keep_end (command_bytes c.script);
     }
 
 -- the value of the k-th rule's field, rules counted from 0
@@ -77,20 +85,25 @@ rules_gathered (suc k) file = rules_gathered k file ++ value_at (rule_span k) fi
 
 unfoldable pub values_gathered : Layout → List ℕ → FieldValues
 values_gathered layout file =
-    values_given (rules_gathered layout.rules file) (value_at layout.initial file) (value_at layout.target file)
-    layout.has_default (value_at layout.default file) layout.has_keep (value_at layout.keep file)
-    layout.has_script (value_at layout.script file)
+    record {
+      rules = rules_gathered layout.rules file;
+      initial = value_at layout.initial file;
+      target = value_at layout.target file;
+      default = value_given layout.default file;
+      keep = value_given layout.keep file;
+      script = value_given layout.script file;
+    }
 
 -- a reading as the reader shows it: contents by the places of their values
-unfoldable pub shown : Reading → FileRead
-shown (accepted c) = Accepted (layout_of c)
-shown (refused refusal) = Refused refusal
+unfoldable pub shown : Reading → Result Layout Refusal
+shown (accepted c) = Ok (layout_of c)
+shown (refused refusal) = Err refusal
 
 -- the whole answer to a file
-unfoldable pub file_read : List ℕ → FileRead
+unfoldable pub file_read : List ℕ → Result Layout Refusal
 file_read file = shown (read_file file)
 
 -- the numbers of its refusal; none where it is accepted
-unfoldable pub file_numbers : FileRead → List ℕ
-file_numbers (Accepted layout) = []
-file_numbers (Refused refusal) = refusal_numbers refusal
+unfoldable pub file_numbers : Result Layout Refusal → List ℕ
+file_numbers (Ok layout) = []
+file_numbers (Err refusal) = refusal_numbers refusal

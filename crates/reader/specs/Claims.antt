@@ -1,8 +1,8 @@
 -- What the reader's answers say: where the values of an accepted file stand, which files are accepted, and that each number is
 -- answered exactly when its row of the table holds. proofs/FileAnswers.antt proves each, of the definitions and of the entries
 -- themselves. Assumes nothing.
-use Rattle.std.specs.Prelude.{ℕ, ◌+◌, ◌*◌, ◌≡◌, ◌⊎◌, ◌↔◌, List, [], ◌∷◌, ◌++◌, length, take}
-use Rattle.std.proofs.Math.Option.{none, some}
+use Rattle.std.specs.Prelude.{Result, Ok, Err, Option as CodeOption, Some, None, ℕ, ◌+◌, ◌*◌, ◌≡◌, ◌⊎◌, ◌↔◌, List, [], ◌∷◌, ◌++◌, length, take}
+use Rattle.std.proofs.Math.Option.{Option, none, some}
 use Rattle.policy.specs.Rule.{Rule}
 use Rattle.deployment.specs.Checked.{refusal_numbers}
 use Rattle.deployment.specs.Values.{
@@ -21,17 +21,12 @@ use Rattle.policy.specs.declared.Action.{Action}
 use Rattle.deployment.specs.Catalogue.{catalogue_of}
 use Rattle.deployment.specs.Contents.{Contents}
 use Rattle.deployment.specs.File.{accepted, read_file, read_to_judge, file_of, head_bytes}
-use Rattle.deployment.specs.FieldValues.{FieldValues, values_read}
-use Rattle.deployment.specs.Properties.{AreBytes, IfThere, Valid, TurnedAway, ValuesFail}
+use Rattle.deployment.specs.Properties.{AreBytes, Valid, TurnedAway}
 use Rattle.deployment.specs.Claims.{values_of}
 use Rattle.deployment.specs.declared.Refusal.{Refusal}
-use Rattle.catalogue.specs.Answers.{checking, checking_numbers}
-use Rattle.values.specs.Answers.{there}
 use Rattle.reader.specs.Answers.{value_at, layout_of, rule_span, values_gathered, shown, file_read, file_numbers}
 use Rattle.reader.specs.declared.Span.{Span}
 use Rattle.reader.specs.declared.Layout.{Layout}
-use Rattle.reader.specs.declared.FileRead.{FileRead}
-use Rattle.reader.specs.declared.FileRead.TheVariants.{Accepted, Refused}
 
 -- the part at a place is a list, in bytes and in numbers
 pub record ListStands (file : List ℕ) (span : Span) (l : List ℕ) : Type 0 where
@@ -50,6 +45,13 @@ pub record ScriptStands (file : List ℕ) (span : Span) (s : Script) : Type 0 wh
   pub script : script_of (value_at span file) ≡ some s
   pub size : span.size ≡ 1 + 5 * length s.commands
 
+-- a value stands at its place, or it is absent and has none
+abbrev pub StandsIf : {A : Type 0} → (Span → A → Type 0) → CodeOption Span → Option A → Type 0
+StandsIf StandsAt None none = Unit {0}
+StandsIf StandsAt None (some a) = ⊥
+StandsIf StandsAt (Some span) none = ⊥
+StandsIf StandsAt (Some span) (some a) = StandsAt span a
+
 -- contents stand in a file at these places; the rules in its first bytes, each behind the head of its field
 pub record Stands (file : List ℕ) (layout : Layout) (c : Contents) : Type 0 where
   pub valid : Valid c
@@ -62,32 +64,29 @@ pub record Stands (file : List ℕ) (layout : Layout) (c : Contents) : Type 0 wh
   pub among : take layout.rules (catalogue_of head_bytes file) ≡ c.catalogue
   pub initial : ListStands file layout.initial c.initial
   pub target : ListStands file layout.target c.target
-  pub has_default : layout.has_default ≡ there (default_field c.default)
-  pub default : IfThere (DefaultStands file layout.default) (default_field c.default)
-  pub has_keep : layout.has_keep ≡ there c.keep
-  pub keep : IfThere (ListStands file layout.keep) c.keep
-  pub has_script : layout.has_script ≡ there c.script
-  pub script : IfThere (ScriptStands file layout.script) c.script
+  pub default : StandsIf (DefaultStands file) layout.default (default_field c.default)
+  pub keep : StandsIf (ListStands file) layout.keep c.keep
+  pub script : StandsIf (ScriptStands file) layout.script c.script
 
 -- "those of an accepted file, written, give that file", and where they stand in it
 abbrev pub AcceptedFile : Type 0
 AcceptedFile =
-    (file : List ℕ) (layout : Layout) → AreBytes file → file_read file ≡ Accepted layout
+    (file : List ℕ) (layout : Layout) → AreBytes file → file_read file ≡ Ok layout
     → (c : Contents) × Stands file layout c
 
 -- "what it writes reads back as the same contents"
 abbrev pub WrittenFile : Type 0
-WrittenFile = (c : Contents) → Valid c → file_read (file_of c) ≡ Accepted (layout_of c)
+WrittenFile = (c : Contents) → Valid c → file_read (file_of c) ≡ Ok (layout_of c)
 
 -- The parts of an accepted file, gathered, are the field values of its contents.
 abbrev pub GatheredFile : Type 0
 GatheredFile =
-    (file : List ℕ) (layout : Layout) → AreBytes file → file_read file ≡ Accepted layout
+    (file : List ℕ) (layout : Layout) → AreBytes file → file_read file ≡ Ok layout
     → (c : Contents) × (read_file file ≡ accepted c) × (values_gathered layout file ≡ values_of c)
 
 -- The numbers of an answer tell its refusal.
 abbrev pub FileNumbersSay : Type 0
-FileNumbersSay = (answer : FileRead) (refusal : Refusal) → (file_numbers answer ≡ refusal_numbers refusal) ↔ (answer ≡ Refused refusal)
+FileNumbersSay = (answer : Result Layout Refusal) (refusal : Refusal) → (file_numbers answer ≡ refusal_numbers refusal) ↔ (answer ≡ Err refusal)
 
 -- a file is turned away exactly as a row of the table says
 abbrev pub RefusedFile : Type 0

@@ -1,6 +1,6 @@
 -- Between two fields: what has been read, and one field more, in the terms of the reader's own functions. Reading itself is that of
 -- the deployment crate. Assumes nothing.
-use Rattle.std.specs.Prelude.{ℕ, ◌+◌, ◌*◌, ◌≡◌, List, [], ◌∷◌, ◌++◌, length, drop}
+use Rattle.std.specs.Prelude.{Result, Ok, Err, ℕ, ◌+◌, ◌*◌, ◌≡◌, List, [], ◌∷◌, ◌++◌, length, drop}
 use Rattle.std.proofs.Math.Option.{some}
 use Rattle.policy.specs.Rule.{Rule}
 use Rattle.deployment.specs.Checked.{Checked, good, bad, ◌>>=◌}
@@ -27,14 +27,11 @@ use Rattle.deployment.specs.File.{
   script_tag,
 }
 use Rattle.deployment.specs.Properties.{CanStand, Readable, fields_bytes}
-use Rattle.values.specs.Answers.{there}
-use Rattle.reader.specs.Answers.{keep_bytes, action_bytes, command_bytes, span_if, end_of}
+use Rattle.reader.specs.Answers.{keep_bytes, action_bytes, command_bytes, span_if, span_given, end_of}
 use Rattle.reader.specs.declared.Layout.{Layout}
 use Rattle.reader.specs.declared.file.Progress.{Progress}
 use Rattle.reader.specs.declared.file.Head.{Head}
-use Rattle.reader.specs.declared.file.Head.TheVariants as head
-use Rattle.reader.specs.declared.file.Step.{Step}
-use Rattle.reader.specs.declared.file.Step.TheVariants as step
+use Rattle.deployment.specs.declared.Why.{Why}
 
 -- where the values of the fields read so far stand
 unfoldable pub layout_so_far : Fields → Layout
@@ -48,12 +45,9 @@ layout_so_far f =
       rules = length f.catalogue;
       initial = span_if rules_end (keep_bytes f.initial);
       target = span_if initial_end (keep_bytes f.target);
-      has_default = there f.default;
-      default = span_if target_end (action_bytes f.default);
-      has_keep = there f.keep;
-      keep = span_if default_end (keep_bytes f.keep);
-      has_script = there f.script;
-      script = span_if keep_end (command_bytes f.script);
+      default = span_given target_end (action_bytes f.default);
+      keep = span_given default_end (keep_bytes f.keep);
+      script = span_given keep_end (command_bytes f.script);
     }
 
 -- what the reader knows of them
@@ -76,16 +70,16 @@ pub data More (f : Fields) : ℕ → List ℕ → Fields → Type 0 where
   a_script : (s : Script) → CanStand f script_tag → More f script_tag (script_bytes s) (set_script f (some s))
 
 -- a field's head, and a whole field, as the reader shows them
-unfoldable pub head_shown : Checked Field → Head
-head_shown (good field) = head.Field field.tag (length field.value)
-head_shown (bad why) = head.Bad why
+unfoldable pub head_shown : Checked Field → Result Head Why
+head_shown (good field) = Ok (record { tag = field.tag; size = length field.value })
+head_shown (bad why) = Err why
 
-unfoldable pub step_shown : Checked Fields → Step
-step_shown (good f) = step.Next (progress_of f)
-step_shown (bad why) = step.Bad why
+unfoldable pub step_shown : Checked Fields → Result Progress Why
+step_shown (good f) = Ok (progress_of f)
+step_shown (bad why) = Err why
 
 -- the field at the head of the bytes that are left, then the tests of its value
-unfoldable pub step_from : Fields → List ℕ → Step
+unfoldable pub step_from : Fields → List ℕ → Result Progress Why
 step_from f left = step_shown (do
   field ← field_read f left
   with_field f field)

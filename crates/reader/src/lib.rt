@@ -2,8 +2,6 @@
 
 #![tactic(auto)]
 
-use deployment::Refusal;
-
 pub mod file;
 
 // A part of a file.
@@ -19,17 +17,7 @@ pub struct Layout {
     pub rules: usize,
     pub initial: Span,
     pub target: Span,
-    pub has_default: bool,
-    pub default: Span,
-    pub has_keep: bool,
-    pub keep: Span,
-    pub has_script: bool,
-    pub script: Span,
-}
-
-// What is read of a file.
-#[derive(Clone, Copy)]
-pub enum FileRead {
-    Accepted(Layout),
-    Refused(Refusal),
+    pub default: Option<Span>,
+    pub keep: Option<Span>,
+    pub script: Option<Span>,
 }

@@ -19,36 +19,37 @@ use Rattle.deployment.specs.Values.{Script}
 use Rattle.deployment.specs.FieldValues.{policy_value, script_value}
 use Rattle.deployment.specs.declared.Why.{Why}
 use Rattle.deployment.proofs.Numbers.{why_numbers_differ}
-use Rattle.replay.specs.Answers.{ending_numbers, stopped, outcome_of, commands_of, replayed}
+use Rattle.replay.specs.Answers.{ending_numbers, outcome_of, commands_of, replayed}
 use Rattle.replay.specs.Claims.{EndingNumbersDiffer, TurnsAway, Replays, ReplayedByNumber, StepByNumber}
 use Rattle.replay.specs.Stepping.{step_left, settled}
-use Rattle.replay.specs.declared.Ending.TheVariants.{Ended, Broken, Turned}
+use Rattle.std.specs.Prelude.{Ok, Err}
+use Rattle.replay.specs.declared.Stop.TheVariants.{Broken, Turned}
 use Rattle.replay.proofs.Steps.{step_shows}
 
 pub ending_numbers_differ : EndingNumbersDiffer
 unfolding ending_numbers
-ending_numbers_differ Ended Ended e = refl
-ending_numbers_differ Ended (Broken g n) e = absurd (omega (arith, ap length e))
-ending_numbers_differ Ended (Turned w) e = absurd (omega (arith, ap length e))
-ending_numbers_differ (Broken f k) Ended e = absurd (omega (arith, ap length e))
-ending_numbers_differ (Broken f k) (Broken g n) e =
+ending_numbers_differ (Ok a) (Ok b) e = refl
+ending_numbers_differ (Ok last) (Err (Broken g n)) e = absurd (omega (arith, ap length e))
+ending_numbers_differ (Ok last) (Err (Turned w)) e = absurd (omega (arith, ap length e))
+ending_numbers_differ (Err (Broken f k)) (Ok last) e = absurd (omega (arith, ap length e))
+ending_numbers_differ (Err (Broken f k)) (Err (Broken g n)) e =
     let why : f ≡ g = fault_numbers_differ f g (cc) in let at : k ≡ n = cc in rw (why, at)
-ending_numbers_differ (Broken f k) (Turned w) e = absurd (omega (arith, ap length e))
-ending_numbers_differ (Turned v) Ended e = absurd (omega (arith, ap length e))
-ending_numbers_differ (Turned v) (Broken g n) e = absurd (omega (arith, ap length e))
-ending_numbers_differ (Turned v) (Turned w) e = ap Turned (why_numbers_differ v w (cc))
+ending_numbers_differ (Err (Broken f k)) (Err (Turned w)) e = absurd (omega (arith, ap length e))
+ending_numbers_differ (Err (Turned v)) (Ok last) e = absurd (omega (arith, ap length e))
+ending_numbers_differ (Err (Turned v)) (Err (Broken g n)) e = absurd (omega (arith, ap length e))
+ending_numbers_differ (Err (Turned v)) (Err (Turned w)) e = rw (why_numbers_differ v w (cc))
 
 module _ (size : ℕ) (initial script : List ℕ) where
   -- a value is turned away
-  turned_replays : (why : Why) → TurnsAway size initial script why → Replays size initial script (stopped (Turned why))
-  unfolding stopped ending_numbers
+  turned_replays : (why : Why) → TurnsAway size initial script why → Replays size initial script (Err (Turned why))
+  unfolding ending_numbers
   turned_replays why away = record {
     breaks = λ n at. (
       λ e. absurd (omega (arith, ap length e)),
       λ (policy, read, first, second, b). absurd (clash policy read first second away),
     );
     leads = λ l. (
-      λ (none, is). absurd (omega (arith, ap length none)),
+      λ e. absurd (let z : ◌≡◌ {A = ℕ} 0 1 = cc in omega arith),
       λ (policy, read, first, second, b). absurd (clash policy read first second away),
     );
     turned = λ n. (
@@ -81,7 +82,7 @@ module _ (size : ℕ) (initial script : List ℕ) where
         let same : other ≡ policy = cc in let alike : again ≡ read = cc in rw (same, alike)
 
     ran_replays : (r : Replayed) → replay size policy (commands_of read) ≡ r → Replays size initial script (outcome_of r)
-    unfolding outcome_of stopped ending_numbers
+    unfolding outcome_of ending_numbers
     ran_replays (ended last) e = record {
       breaks = λ n at. (
         λ f. absurd (omega (arith, ap length f)),
@@ -93,11 +94,9 @@ module _ (size : ℕ) (initial script : List ℕ) where
             absurd (omega arith),
       );
       leads = λ l. (
-        λ (none, is). (policy, read, first, second, (replay_is_leads size policy l (commands_of read)).0 (e ∙ ap ended is)),
-        λ (other, again, is, alike, leads). (
-          refl,
-          cc (e, accepted_replay other again is alike, (replay_is_leads size other l (commands_of again)).1 leads),
-        ),
+        λ is. (policy, read, first, second, (replay_is_leads size policy l (commands_of read)).0 (e ∙ ap ended (cc))),
+        λ (other, again, is, alike, leads).
+            ap Ok (cc (e, accepted_replay other again is alike, (replay_is_leads size other l (commands_of again)).1 leads)),
       );
       turned = λ n. (
         λ f. absurd (omega (arith, ap length f)),
@@ -118,7 +117,7 @@ module _ (size : ℕ) (initial script : List ℕ) where
             rw (← why, number, same),
       );
       leads = λ l. (
-        λ (none, is). absurd (omega (arith, ap length none)),
+        λ f. absurd (let z : ◌≡◌ {A = ℕ} 0 1 = cc in omega arith),
         λ (other, again, is, alike, leads).
             let ends = (replay_is_leads size other l (commands_of again)).1 leads in
             let z : ◌≡◌ {A = ℕ} 0 1 = cc (ends, accepted_replay other again is alike, e) in

@@ -13,7 +13,7 @@ use Rattle.policy.specs.declared.Command.{Command}
 use Rattle.policy.specs.declared.Fault.{Fault}
 use Rattle.deployment.specs.Values.{command_from, coded_of, every_command, command_chunks, script_of}
 use Rattle.deployment.specs.Commands.{command_count, command_at, decoded}
-use Rattle.deployment.specs.declared.Decoded.TheVariants.{Is, Wrong}
+use Rattle.std.specs.Prelude.{Some, None}
 use Rattle.deployment.proofs.Values.{by_option, none_some}
 use Rattle.deployment.proofs.Scripts.{script_of_lem}
 use Rattle.values.proofs.Scripts.{decoded_is, decoded_wrong, chunk_count, chunk_command}
@@ -70,12 +70,12 @@ module _ (value : List ℕ) (readable : Readable value) where
       (c, chunk_command value k h ∙ rw (← typed) is, rw read rest)
 
   -- a command that can't be read isn't met
-  pub never_wrong : (k : ℕ) → k < command_count value → Wrong ≡ decoded (command_at value k) → ⊥
+  pub never_wrong : (k : ℕ) → k < command_count value → None ≡ decoded (command_at value k) → ⊥
   never_wrong k h e = let (c, is, rest) = command_next k h in none_some (sym (decoded_wrong (command_at value k) e) ∙ is)
 
   module _ (size : ℕ) {whole : Replayed} (k : ℕ) (l : List ℕ) (left : whole ≡ replay_from size k l (drop k (commands_of (script_of value)))) where
     -- one more command, that passes or fails
-    module _ (c : Command) (h : k < command_count value) (is : Is c ≡ decoded (command_at value k)) where
+    module _ (c : Command) (h : k < command_count value) (is : Some c ≡ decoded (command_at value k)) where
       rest_from : whole ≡ replay_from size k l (c ∷ drop (suc k) (commands_of (script_of value)))
       rest_from =
           let (d, at, rest) = command_next k h in

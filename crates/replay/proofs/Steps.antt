@@ -24,7 +24,7 @@ use Rattle.policy.proofs.Counting.{inside_length}
 use Rattle.running.specs.Running.{Shown, view, given, roomy, appended, rule_deleted, inserted, place_deleted, relocated}
 use Rattle.running.specs.Place.{place_in}
 use Rattle.places.specs.Places.{renumbered, Says}
-use Rattle.running.specs.declared.Refusing.TheVariants.{Nothing, Failed}
+use Rattle.std.specs.Prelude.{Some, None}
 use Rattle.running.proofs.Edits.{within_bounds}
 use Rattle.running.proofs.Claims.{absent_test, takes_out}
 use Rattle.running.proofs.Place.{place_within, place_rule, place_lifted}
@@ -120,27 +120,27 @@ module _ (size : ℕ) (l places : List ℕ) (sound : Sound size l places) where
     unfolding step_left settled
     shown_by_lem o e = ap (λ (x : StepLeft). x.shown) left ∙ step_shows c ∙ ap (given l) e
 
-    pub step_failed : (fault : Fault) → s.refusal ≡ Failed fault → step size l c ≡ failed fault
+    pub step_failed : (fault : Fault) → s.refusal ≡ Some fault → step size l c ≡ failed fault
     unfolding given left_by
     step_failed fault refused =
         by_outcome (step size l c)
         (λ m e. let clash : ◌≡◌ {A = ℕ} 0 1 = cc (ap (λ (x : Shown). x.refusal) (shown_by_lem (passed m) e)) in absurd (omega arith))
         (λ f e. e ∙ ap failed (cc (ap (λ (x : Shown). x.refusal) (shown_by_lem (failed f) e))))
 
-    pub step_passed : s.refusal ≡ Nothing → step size l c ≡ passed (view s.state.list)
+    pub step_passed : s.refusal ≡ None → step size l c ≡ passed (view s.state.list)
     unfolding given left_by
     step_passed refused =
         by_outcome (step size l c)
         (λ m e. e ∙ ap passed (sym (ap (λ (x : Shown). x.list) (shown_by_lem (passed m) e))))
         (λ f e. let clash : ◌≡◌ {A = ℕ} 0 1 = cc (ap (λ (x : Shown). x.refusal) (shown_by_lem (failed f) e)) in absurd (omega arith))
 
-    pub step_sound : s.refusal ≡ Nothing → Sound size (view s.state.list) s.state.places.of
+    pub step_sound : s.refusal ≡ None → Sound size (view s.state.list) s.state.places.of
     unfolding left_by step_left settled places_after
     step_sound refused =
         let m = view s.state.list in
         let passes = step_passed refused in
         let list : m ≡ (step_shown size l places c).list = ap (λ (x : StepLeft). x.shown.list) left in
-        let refusal : (step_shown size l places c).refusal ≡ Nothing = sym (ap (λ (x : StepLeft). x.shown.refusal) left) ∙ refused in
+        let refusal : (step_shown size l places c).refusal ≡ None = sym (ap (λ (x : StepLeft). x.shown.refusal) left) ∙ refused in
         record {
           small = sound.small;
           policy = makes_policy size l c m (passes_makes size l c m passes) sound.policy;

@@ -19,11 +19,11 @@ use Rattle.deployment.proofs.Tests.{Each, tested, says_list, policy_tested_lem, 
 use Rattle.places.specs.Places.{renumbered}
 use Rattle.places.proofs.Says.{says_numbered}
 use Rattle.catalogue.specs.Answers.{checking}
-use Rattle.catalogue.specs.declared.Checking.TheVariants.{Good, Bad}
+use Rattle.std.specs.Prelude.{Ok, Err}
 use Rattle.values.proofs.Given.{passed, failed}
 use Rattle.replay.specs.Stepping.{Sound}
-use Rattle.replay.specs.Answers.{stopped, outcome_of, commands_of, replayed, Readable}
-use Rattle.replay.specs.declared.Ending.TheVariants.{Turned}
+use Rattle.replay.specs.Answers.{outcome_of, commands_of, replayed, Readable}
+use Rattle.replay.specs.declared.Stop.TheVariants.{Turned}
 
 -- what an accepted value is
 abbrev IsList : ℕ → List ℕ → List ℕ → Type 0
@@ -54,12 +54,12 @@ commands_read value =
 
 -- The answer: turned away at the policy, at the script, or replayed.
 module _ (size : ℕ) (initial script : List ℕ) where
-  pub turned_at_policy : (why : Why) → Bad why ≡ checking (policy_value (min size 1024) initial) → stopped (Turned why) ≡ replayed size initial script
+  pub turned_at_policy : (why : Why) → Err why ≡ checking (policy_value (min size 1024) initial) → Err (Turned why) ≡ replayed size initial script
   unfolding replayed
   turned_at_policy why e = rw (failed (policy_value (min size 1024) initial) why e, replayed)
 
-  module _ (accepted : Good ≡ checking (policy_value (min size 1024) initial)) where
-    pub turned_at_script : (why : Why) → Bad why ≡ checking (script_value (some script)) → stopped (Turned why) ≡ replayed size initial script
+  module _ (accepted : Ok tt ≡ checking (policy_value (min size 1024) initial)) where
+    pub turned_at_script : (why : Why) → Err why ≡ checking (script_value (some script)) → Err (Turned why) ≡ replayed size initial script
     unfolding replayed
     turned_at_script why e =
         let (policy, is) = passed (policy_value (min size 1024) initial) accepted in
@@ -71,7 +71,7 @@ module _ (size : ℕ) (initial script : List ℕ) where
         let listed : IsList (min size 1024) initial policy = rw is at (policy_list (min size 1024) initial) in
         rw listed.0 listed.1
 
-    module _ (read : Good ≡ checking (script_value (some script))) where
+    module _ (read : Ok tt ≡ checking (script_value (some script))) where
       pub accepted_script : Readable script
       accepted_script =
           let (commands, is) = passed (script_value (some script)) read in

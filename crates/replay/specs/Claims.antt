@@ -1,7 +1,7 @@
 -- What a customer buys of the replay, by document 01's numbers: where a script value leads from a policy value, or where it breaks, and what one
 -- command does. proofs/Claims.antt has, for each claim, a proof of the same name in small letters with hyphens, and proofs/Answers.antt says it of
 -- each entry. Assumes nothing.
-use Rattle.std.specs.Prelude.{ℕ, min, ◌≡◌, ◌⊎◌, ◌↔◌, List, [], ◌∷◌}
+use Rattle.std.specs.Prelude.{Result, Ok, ℕ, min, ◌≡◌, ◌⊎◌, ◌↔◌, List, [], ◌∷◌}
 use Rattle.std.proofs.Math.Option.{Option, some}
 use Rattle.policy.specs.Policy.{most_rules}
 use Rattle.policy.specs.Properties.{Leads}
@@ -14,11 +14,11 @@ use Rattle.deployment.specs.FieldValues.{policy_value, script_value}
 use Rattle.deployment.specs.declared.Why.{Why}
 use Rattle.replay.specs.Answers.{ending_numbers, Outcome, commands_of, replayed}
 use Rattle.replay.specs.Stepping.{step_left, Sound}
-use Rattle.replay.specs.declared.Ending.{Ending}
+use Rattle.replay.specs.declared.Stop.{Stop}
 
 -- No two endings share their number and values.
 abbrev pub EndingNumbersDiffer : Type 0
-EndingNumbersDiffer = (e f : Ending) → ending_numbers e ≡ ending_numbers f → e ≡ f
+EndingNumbersDiffer = (e f : Result Unit (Stop Why)) → ending_numbers e ≡ ending_numbers f → e ≡ f
 
 -- both values are accepted, and their policy and commands have a property
 abbrev pub Accepts : ℕ → List ℕ → List ℕ → (List ℕ → List Command → Type 0) → Type 0
@@ -35,11 +35,11 @@ TurnsAway size initial script why =
 -- It breaks with a number at a step exactly when the command there is the first that fails, with that number; it ends with a list exactly when the
 -- script leads to it; it is turned away with the number of the value at fault.
 pub record Replays (size : ℕ) (initial script : List ℕ) (o : Outcome) : Type 0 where
-  pub breaks : (number at : ℕ) → (ending_numbers o.ending ≡ number ∷ at ∷ [])
+  pub breaks : (number at : ℕ) → (ending_numbers o ≡ number ∷ at ∷ [])
       ↔ Accepts size initial script (λ policy commands. BreaksAt size policy commands number at)
-  pub leads : (l : List ℕ) → ((ending_numbers o.ending ≡ []) × (o.list ≡ l))
+  pub leads : (l : List ℕ) → (o ≡ Ok l)
       ↔ Accepts size initial script (λ policy commands. Leads size policy commands l)
-  pub turned : (number : ℕ) → (ending_numbers o.ending ≡ number ∷ [])
+  pub turned : (number : ℕ) → (ending_numbers o ≡ number ∷ [])
       ↔ ((why : Why) × (why_number why ≡ number) × TurnsAway size initial script why)
 
 -- sizes above 1,024 are taken for 1,024

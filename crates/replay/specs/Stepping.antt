@@ -1,5 +1,5 @@
 -- One command on a running list with its side array: what the list shows then, and every entry of the array. Assumes nothing.
-use Rattle.std.specs.Prelude.{ℕ, suc, min, ◌-◌, ◌≤◌, List, length, drop, get_or, set}
+use Rattle.std.specs.Prelude.{Option as CodeOption, Some, None, ℕ, suc, min, ◌-◌, ◌≤◌, List, length, drop, get_or, set}
 use Rattle.policy.specs.Claims.{Admitted}
 use Rattle.policy.specs.Command.{rule_at}
 use Rattle.policy.specs.Policy.{most_rules}
@@ -7,8 +7,7 @@ use Rattle.policy.specs.declared.Command.{Command}
 use Rattle.policy.specs.declared.Command.TheVariants.{App, DelRule, Ins, DelPlace, Mov}
 use Rattle.running.specs.Running.{Shown, view, appended, rule_deleted, inserted, place_deleted, relocated}
 use Rattle.places.specs.Places.{renumbered, Says}
-use Rattle.running.specs.declared.Refusing.{Refusing}
-use Rattle.running.specs.declared.Refusing.TheVariants.{Nothing, Failed}
+use Rattle.policy.specs.declared.Fault.{Fault}
 use Rattle.replay.specs.declared.Stepped.{Stepped}
 
 -- the list and the refusal that a command gives; presence and place of a rule are what the array says
@@ -41,9 +40,9 @@ pub record StepLeft : Type 0 where
   pub places : List ℕ
 
 -- a command that fails leaves the array as it is
-unfoldable pub places_after : Refusing → List ℕ → List ℕ → List ℕ
-places_after Nothing old new = new
-places_after (Failed fault) old new = old
+unfoldable pub places_after : CodeOption Fault → List ℕ → List ℕ → List ℕ
+places_after None old new = new
+places_after (Some fault) old new = old
 
 -- what an edit leaves of the array `old`: on success the rules from the given index on are numbered anew in `places`
 unfoldable pub settled : Shown → List ℕ → List ℕ → ℕ → StepLeft

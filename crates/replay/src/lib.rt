@@ -10,16 +10,16 @@ ghost use Rattle.policy.specs.Replay.{replay};
 ghost use Rattle.running.specs.Running.{view, shown};
 ghost use Rattle.places.specs.Places.{renumbered};
 ghost use Rattle.deployment.specs.Values.{script_of};
+ghost use Rattle.replay.specs.declared.Stop.TheVariants.{Turned};
 ghost use Rattle.replay.specs.Stepping.{step_left, left_by, settled, Sound};
-ghost use Rattle.replay.specs.Answers.{shown_by, stopped, outcome_of, commands_of, Readable, replayed};
+ghost use Rattle.replay.specs.Answers.{shown_by, outcome_of, commands_of, Readable, replayed};
 
-use catalogue::Checking;
 use commands::{command_at, commands};
-use deployment::{Decoded, Why};
+use deployment::Why;
 use format::list_of;
 use places::Places;
 use policy::{Command, Fault, MOST_RULES};
-use running::{Edited, Refusing, Running};
+use running::{Edited, Running};
 use values::{policy_checked, script_checked};
 
 // A running list and its side array.
@@ -33,32 +33,29 @@ pub struct Replaying {
 #[derive(Clone, Copy)]
 pub struct Stepped {
     pub state: Replaying,
-    pub refusal: Refusing,
+    pub refusal: Option<Fault>,
 }
 
-// How a replay ends.
-#[derive(Clone, Copy)]
-pub enum Ending {
-    Ended,
+// Why a replay has no last list: a command fails, with its step, or what was given is turned away.
+#[derive(Clone, Copy, Debug, PartialEq, Eq)]
+pub enum Stop<T> {
     Broken(Fault, usize),
-    Turned(Why),
+    Turned(T),
 }
 
-// The last list, empty unless the script ends, and how it ends.
-#[derive(Clone, Copy)]
-pub struct Replayed {
-    pub list: Running,
-    pub ending: Ending,
+impl From<Why> for Stop<Why> {
+    ghost from_gives = { λ why stop. stop ≡ Turned why };
+
+    fn from(why: Why) -> Self {
+        Stop::Turned(why)
+    }
 }
 
 // The index of a place; 0 for no place.
 fn index_of(i: usize) -> usize
     ensures { result ≡ i - 1 }
 {
-    if i == 0 {
-        return 0;
-    }
-    i - 1
+    i.saturating_sub(1)
 }
 
 // The rule at a place; 0 for a place that the list doesn't have.
@@ -66,8 +63,7 @@ fn rule_at(list: Running, i: usize) -> u16
     ensures { result ≡ rule_at i (view list) }
 {
     let at = index_of(i);
-    let rules = list.rules;
-    if at < list.count() { rules[at] } else { 0 }
+    if at < list.count() { list.rules[at] } else { 0 }
 }
 
 // What an edit leaves: on success the rules from index `from` on are numbered anew, in `places`; a refusal leaves the array as it was.
@@ -75,13 +71,14 @@ fn settle(e: Edited, before: Places, places: Places, from: usize) -> Stepped
     ensures { left_by result ≡ settled (shown e) before.of places.of from }
 {
     let list = e.list;
-    let refusal = e.refusal;
-    let mut anew = before;
-    if let Refusing::Nothing = refusal {
-        anew = places.numbered(list, from);
+    let anew = match e.refusal {
+        None => places.numbered(list, from),
+        Some(_) => before,
+    };
+    Stepped {
+        state: Replaying { list, places: anew },
+        refusal: e.refusal,
     }
-    let state = Replaying { list, places: anew };
-    Stepped { state, refusal }
 }
 
 impl Replaying {
@@ -145,8 +142,7 @@ impl Replaying {
     {
         let list = self.list;
         let places = self.places;
-        let from = if i < j { i } else { j };
-        settle(list.mov(i, j), places, places, index_of(from))
+        settle(list.mov(i, j), places, places, index_of(i.min(j)))
     }
 
     // One command, for a catalogue of `size` rules.
@@ -163,55 +159,33 @@ impl Replaying {
     }
 }
 
-// A replay that doesn't end shows no list.
-fn stop(ending: Ending) -> Replayed
-    ensures { shown_by result ≡ stopped ending }
-{
-    let list = Running::empty();
-    Replayed { list, ending }
-}
-
 // The commands of a script value one after another; the first is step 1. Each decodes, since the script is readable.
-fn run(start: Replaying, size: usize, script: &[u8]) -> Replayed
+fn run(start: Replaying, size: usize, script: &[u8]) -> Result<Running, Stop<Why>>
     requires { Sound size (view start.list) start.places.of × Readable script.now }
     ensures { shown_by result ≡ outcome_of (replay size (view start.list) (commands_of (script_of script.now))) }
 {
     let count = commands(script);
     let mut state = start;
-    let mut k = 0;
-    while k < count {
-        let d = command_at(script, k);
-        let Decoded::Is(c) = d else {
-            return stop(Ending::Turned(Why::Coding));
-        };
+    for k in 0..count {
+        let c = command_at(script, k).ok_or(Why::Coding)?;
         let s = state.step(size, c);
-        let refusal = s.refusal;
-        if let Refusing::Failed(fault) = refusal {
-            let at = k + 1;
-            return stop(Ending::Broken(fault, at));
+        if let Some(fault) = s.refusal {
+            return Err(Stop::Broken(fault, k + 1));
         }
         state = s.state;
-        k += 1;
     }
-    let list = state.list;
-    Replayed {
-        list,
-        ending: Ending::Ended,
-    }
+    Ok(state.list)
 }
 
 // Replays a script value from a policy value, for a catalogue of `size` rules.
-pub fn replay(size: usize, initial: &[u8], script: &[u8]) -> Replayed
+pub fn replay(size: usize, initial: &[u8], script: &[u8]) -> Result<Running, Stop<Why>>
     ensures { shown_by result ≡ replayed size initial.now script.now }
 {
-    let c = policy_checked(initial, size);
-    if let Checking::Bad(why) = c {
-        return stop(Ending::Turned(why));
-    }
-    let d = script_checked(script);
-    if let Checking::Bad(why) = d {
-        return stop(Ending::Turned(why));
-    }
-    let top = if size < MOST_RULES { size } else { MOST_RULES };
-    run(Replaying::start(list_of(initial)), top, script)
+    policy_checked(initial, size)?;
+    script_checked(script)?;
+    run(
+        Replaying::start(list_of(initial)),
+        size.min(MOST_RULES),
+        script,
+    )
 }

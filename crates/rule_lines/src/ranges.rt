@@ -10,40 +10,36 @@ ghost use Rattle.rule_lines.specs.Text.{value_text, range_text};
 use super::heads::put_sign;
 use lines::words::{put_number, put_word};
 
-// Widths of numbers in bytes, and the highest number of each.
-pub const PROTOCOL_BYTES: usize = 1;
+// How many bytes a number has, and the highest number of that width.
+#[derive(Clone, Copy)]
+pub struct Width {
+    pub bytes: usize,
+    pub highest: usize,
+}
 
-pub const HIGHEST_PROTOCOL: usize = 255;
+pub const PROTOCOL_WIDTH: Width = Width {
+    bytes: 1,
+    highest: 255,
+};
 
-pub const PORT_BYTES: usize = 2;
+pub const PORT_WIDTH: Width = Width {
+    bytes: 2,
+    highest: 65535,
+};
 
-pub const HIGHEST_PORT: usize = 65535;
-
-pub const ADDRESS_BYTES: usize = 4;
-
-pub const HIGHEST_ADDRESS: usize = 4294967295;
+pub const ADDRESS_WIDTH: Width = Width {
+    bytes: 4,
+    highest: 4294967295,
+};
 
 const BYTE: usize = 256;
 
-// A byte as a number.
-pub fn wide(byte: u8) -> usize
-    ensures { result ≡ byte }
-{
-    byte as usize
-}
-
-// "All numbers are big-endian": the number of so many bytes at a place of a rule.
+// The number of so many bytes at a place of a rule.
 fn number_of(rule: &[u8], start: usize, width: usize) -> usize
     requires { (start + width ≤ length rule.now) × (width ≤ 4) }
     ensures { result ≡ number (part start width rule.now) }
 {
-    let mut n = 0;
-    let mut k = 0;
-    while k < width {
-        n = n * BYTE + wide(rule[start + k]);
-        k += 1;
-    }
-    n
+    format::number_of(&rule[start..start + width]) as usize
 }
 
 // The last byte of a number, and a dot behind it.
@@ -67,53 +63,39 @@ fn put_address(place: &mut [u8], at: usize, n: usize) -> usize
 }
 
 // A number of so many bytes.
-fn put_value(place: &mut [u8], at: usize, width: usize, n: usize) -> usize
-    ensures { Puts place.old at (value_text width n) place.new result }
+fn put_value(place: &mut [u8], at: usize, bytes: usize, n: usize) -> usize
+    ensures { Puts place.old at (value_text bytes n) place.new result }
 {
-    if width == ADDRESS_BYTES {
+    if bytes == ADDRESS_WIDTH.bytes {
         return put_address(place, at, n);
     }
     put_number(place, at, n)
 }
 
 // A range, by its bounds: `any` where it has all numbers, a single one as itself, others as `low-high`.
-fn put_bounds(
-    place: &mut [u8],
-    at: usize,
-    width: usize,
-    highest: usize,
-    low: usize,
-    high: usize,
-) -> usize
-    requires { highest + 1 ≡ 256 ^ width }
-    ensures { Puts place.old at (range_text width (record { low = low; high = high })) place.new result }
+fn put_bounds(place: &mut [u8], at: usize, width: Width, low: usize, high: usize) -> usize
+    requires { width.highest + 1 ≡ 256 ^ width.bytes }
+    ensures { Puts place.old at (range_text width.bytes (record { low = low; high = high })) place.new result }
 {
-    if low == 0 && high == highest {
+    if low == 0 && high == width.highest {
         return put_word(place, at, b"any");
     }
-    let mut next = put_value(place, at, width, low);
+    let mut next = put_value(place, at, width.bytes, low);
     if low == high {
         return next;
     }
     next = put_sign(place, next, b'-');
-    put_value(place, next, width, high)
+    put_value(place, next, width.bytes, high)
 }
 
 // The range at a place of a rule: low, then high.
-fn put_range(
-    place: &mut [u8],
-    at: usize,
-    rule: &[u8],
-    start: usize,
-    width: usize,
-    highest: usize,
-) -> usize
-    requires { (start + width + width ≤ length rule.now) × (width ≤ 4) × (highest + 1 ≡ 256 ^ width) }
-    ensures { Puts place.old at (range_text width (range_at start width rule.now)) place.new result }
+fn put_range(place: &mut [u8], at: usize, rule: &[u8], start: usize, width: Width) -> usize
+    requires { (start + width.bytes + width.bytes ≤ length rule.now) × (width.bytes ≤ 4) × (width.highest + 1 ≡ 256 ^ width.bytes) }
+    ensures { Puts place.old at (range_text width.bytes (range_at start width.bytes rule.now)) place.new result }
 {
-    let low = number_of(rule, start, width);
-    let high = number_of(rule, start + width, width);
-    put_bounds(place, at, width, highest, low, high)
+    let low = number_of(rule, start, width.bytes);
+    let high = number_of(rule, start + width.bytes, width.bytes);
+    put_bounds(place, at, width, low, high)
 }
 
 // A label, and behind it the range at a place of a rule.
@@ -123,13 +105,12 @@ pub fn put_labelled(
     label: &[u8],
     rule: &[u8],
     start: usize,
-    width: usize,
-    highest: usize,
+    width: Width,
 ) -> usize
-    requires { (start + width + width ≤ length rule.now) × (width ≤ 4) × (highest + 1 ≡ 256 ^ width) }
-    ensures { Puts place.old at (label.now ++ range_text width (range_at start width rule.now))
+    requires { (start + width.bytes + width.bytes ≤ length rule.now) × (width.bytes ≤ 4) × (width.highest + 1 ≡ 256 ^ width.bytes) }
+    ensures { Puts place.old at (label.now ++ range_text width.bytes (range_at start width.bytes rule.now))
         place.new result }
 {
     let next = put_word(place, at, label);
-    put_range(place, next, rule, start, width, highest)
+    put_range(place, next, rule, start, width)
 }

@@ -7,10 +7,7 @@ ghost use Rattle.lines.specs.Printing.{Puts};
 ghost use Rattle.rule_lines.specs.Text.{action_text, end_text, ends_text, rule_text, rules_text, catalogue_text};
 
 use super::heads::{LINE_END, put_head, put_sign};
-use super::ranges::{
-    ADDRESS_BYTES, HIGHEST_ADDRESS, HIGHEST_PORT, HIGHEST_PROTOCOL, PORT_BYTES, PROTOCOL_BYTES,
-    put_labelled,
-};
+use super::ranges::{ADDRESS_WIDTH, PORT_WIDTH, PROTOCOL_WIDTH, put_labelled};
 use format::{HEAD_BYTES, RULE_BYTES};
 use lines::words::{put_number, put_word};
 
@@ -45,25 +42,9 @@ fn put_end(place: &mut [u8], at: usize, label: &[u8], rule: &[u8], start: usize)
         (label.now ++ end_text (range_at start 4 rule.now) (range_at (start + 8) 2 rule.now))
         place.new result }
 {
-    let next = put_labelled(
-        place,
-        at,
-        label,
-        rule,
-        start,
-        ADDRESS_BYTES,
-        HIGHEST_ADDRESS,
-    );
-    let ports = start + 2 * ADDRESS_BYTES;
-    put_labelled(
-        place,
-        next,
-        b" port ",
-        rule,
-        ports,
-        PORT_BYTES,
-        HIGHEST_PORT,
-    )
+    let next = put_labelled(place, at, label, rule, start, ADDRESS_WIDTH);
+    let ports = start + 2 * ADDRESS_WIDTH.bytes;
+    put_labelled(place, next, b" port ", rule, ports, PORT_WIDTH)
 }
 
 // Both ends of a rule, and the end of its line.
@@ -83,15 +64,7 @@ fn put_rule(place: &mut [u8], at: usize, k: usize, rule: &[u8]) -> usize
 {
     let mut next = put_number(place, at, k);
     next = put_action(place, next, rule);
-    next = put_labelled(
-        place,
-        next,
-        b" protocol ",
-        rule,
-        PROTOCOL,
-        PROTOCOL_BYTES,
-        HIGHEST_PROTOCOL,
-    );
+    next = put_labelled(place, next, b" protocol ", rule, PROTOCOL, PROTOCOL_WIDTH);
     put_ends(place, next, rule)
 }
 
@@ -101,11 +74,9 @@ fn put_rules(place: &mut [u8], at: usize, file: &[u8], count: usize) -> usize
     ensures { Puts place.old at (rules_text 0 (take count (catalogue_of 3 file.now))) place.new result }
 {
     let mut next = at;
-    let mut k = 0;
-    while k < count {
+    for k in 0..count {
         let start = k * RULE_FIELD_BYTES + HEAD_BYTES;
         next = put_rule(place, next, k, &file[start..start + RULE_BYTES]);
-        k += 1;
     }
     next
 }
@@ -115,11 +86,7 @@ fn shown(file: &[u8], count: usize) -> usize
     ensures { (result * 30 ≤ length file.now)
         × (take result (catalogue_of 3 file.now) ≡ take count (catalogue_of 3 file.now)) }
 {
-    let all = file.len() / RULE_FIELD_BYTES;
-    if all < count {
-        return all;
-    }
-    count
+    count.min(file.len() / RULE_FIELD_BYTES)
 }
 
 // How many of the first `count` rules there are, and their lines.

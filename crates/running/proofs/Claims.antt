@@ -22,15 +22,15 @@ use Rattle.running.specs.Running.{refusing_numbers, Shown, given, roomy, appende
 use Rattle.running.specs.Place.{place_in}
 use Rattle.running.specs.Claims.{RefusingNumbersDiffer, ByNumber, GivenByNumber, PlaceDeletedByNumber, RelocatedByNumber}
 use Rattle.running.specs.Claims.{RuleDeletedByNumber, AppendedByNumber, InsertedByNumber}
-use Rattle.running.specs.declared.Refusing.TheVariants.{Nothing, Failed}
+use Rattle.std.specs.Prelude.{Some, None}
 use Rattle.running.proofs.Place.{place_zero, absent_place, place_within, place_lifted}
 
 pub refusing_numbers_differ : RefusingNumbersDiffer
 unfolding refusing_numbers
-refusing_numbers_differ Nothing Nothing e = refl
-refusing_numbers_differ Nothing (Failed g) e = absurd (omega (arith, ap length e))
-refusing_numbers_differ (Failed f) Nothing e = absurd (omega (arith, ap length e))
-refusing_numbers_differ (Failed f) (Failed g) e = ap Failed (fault_numbers_differ f g (cc))
+refusing_numbers_differ None None e = refl
+refusing_numbers_differ None (Some g) e = absurd (omega (arith, ap length e))
+refusing_numbers_differ (Some f) None e = absurd (omega (arith, ap length e))
+refusing_numbers_differ (Some f) (Some g) e = ap Some (fault_numbers_differ f g (cc))
 
 module _ (size : ℕ) (l : List ℕ) (c : Command) where
   by_outcome_lem : (o : Outcome) → step size l c ≡ o → ByNumber size l c (given l o)

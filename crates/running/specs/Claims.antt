@@ -1,6 +1,6 @@
 -- What a customer buys of the running list: each edit is refused by number exactly as the table says, and else makes what document 01 says of its
 -- command. proofs/Claims.antt has, for each claim, a proof of the same name in small letters with hyphens. Assumes nothing.
-use Rattle.std.specs.Prelude.{ℕ, ◌<◌, ◌≡◌, ◌↔◌, List, [], ◌∷◌, length}
+use Rattle.std.specs.Prelude.{Option as CodeOption, ℕ, ◌<◌, ◌≡◌, ◌↔◌, List, [], ◌∷◌, length}
 use Rattle.policy.specs.Policy.{most_rules}
 use Rattle.policy.specs.Command.{step}
 use Rattle.policy.specs.Properties.{Fails, Makes}
@@ -8,11 +8,11 @@ use Rattle.policy.specs.declared.Command.{Command}
 use Rattle.policy.specs.declared.Command.TheVariants.{App, DelRule, Ins, DelPlace, Mov}
 use Rattle.running.specs.Running.{refusing_numbers, Shown, given, appended, rule_deleted, inserted, place_deleted, relocated}
 use Rattle.running.specs.Place.{place_in}
-use Rattle.running.specs.declared.Refusing.{Refusing}
+use Rattle.policy.specs.declared.Fault.{Fault}
 
 -- No two refusals share their number.
 abbrev pub RefusingNumbersDiffer : Type 0
-RefusingNumbersDiffer = (r s : Refusing) → refusing_numbers r ≡ refusing_numbers s → r ≡ s
+RefusingNumbersDiffer = (r s : CodeOption Fault) → refusing_numbers r ≡ refusing_numbers s → r ≡ s
 
 -- What a command gives to a list: a number exactly when it fails with it, and then the list as it was; else the list that it makes.
 pub record ByNumber (size : ℕ) (l : List ℕ) (c : Command) (s : Shown) : Type 0 where

@@ -1,35 +1,34 @@
 -- What the running list shows, and what each method gives. The tests are those of document 01's commands, in their order; a list that has
 -- all of its 1,024 slots taken has no place for another rule (22), which no list of differing rules of a catalogue meets. Assumes nothing.
-use Rattle.std.specs.Prelude.{ℕ, suc, ◌&&◌, List, [], ◌∷◌, ◌++◌, length, take, eqb, ltb}
+use Rattle.std.specs.Prelude.{Option as CodeOption, Some, None, ℕ, suc, ◌&&◌, List, [], ◌∷◌, ◌++◌, length, take, eqb, ltb}
 use Rattle.policy.specs.Policy.{most_rules}
 use Rattle.policy.specs.Command.{fault_number, Outcome, passed, failed, needs, within, lifted, placed, moved}
 use Rattle.policy.specs.declared.Fault.TheVariants.{Present, Absent, Place, Number}
 use Rattle.running.specs.declared.Running.{Running}
 use Rattle.running.specs.declared.Edited.{Edited}
-use Rattle.running.specs.declared.Refusing.{Refusing}
-use Rattle.running.specs.declared.Refusing.TheVariants.{Nothing, Failed}
+use Rattle.policy.specs.declared.Fault.{Fault}
 
 -- the list that is shown: as many of the rules as the length says, and all 1,024 where it says more
 unfoldable pub view : Running → List ℕ
 view r = take r.len r.rules
 
 -- the number of a refusal; of none, no number
-unfoldable pub refusing_numbers : Refusing → List ℕ
-refusing_numbers Nothing = []
-refusing_numbers (Failed fault) = fault_number fault ∷ []
+unfoldable pub refusing_numbers : CodeOption Fault → List ℕ
+refusing_numbers None = []
+refusing_numbers (Some fault) = fault_number fault ∷ []
 
 -- a list and the refusal beside it
 pub record Shown : Type 0 where
   pub list : List ℕ
-  pub refusal : Refusing
+  pub refusal : CodeOption Fault
 
 unfoldable pub shown : Edited → Shown
 shown e = record { list = view e.list; refusal = e.refusal }
 
 -- the list that a command gives, or the old one and why it fails
 unfoldable pub given : List ℕ → Outcome → Shown
-given l (passed m) = record { list = m; refusal = Nothing }
-given l (failed fault) = record { list = l; refusal = Failed fault }
+given l (passed m) = record { list = m; refusal = None }
+given l (failed fault) = record { list = l; refusal = Some fault }
 
 -- a slot is free
 unfoldable pub roomy : List ℕ → Outcome → Outcome

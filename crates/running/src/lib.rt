@@ -19,28 +19,18 @@ pub struct Running {
     pub len: usize,
 }
 
-// The refusal, if any.
-#[derive(Clone, Copy)]
-pub enum Refusing {
-    Nothing,
-    Failed(Fault),
-}
-
 // "each gives a struct of the list and, beside it, the refusal if any"
 #[derive(Clone, Copy)]
 pub struct Edited {
     pub list: Running,
-    pub refusal: Refusing,
+    pub refusal: Option<Fault>,
 }
 
 // "from 1 to ..": whether a place is in its range.
 fn in_range(i: usize, top: usize) -> bool
     ensures { result ≡ within i top }
 {
-    if i == 0 {
-        return false;
-    }
-    i <= top
+    (1..=top).contains(&i)
 }
 
 // The rules with the one at index `at` taken out: those behind it, up to `len`, move up by one.
@@ -49,11 +39,7 @@ fn closed(rules: [u16; MOST_RULES], at: usize, len: usize) -> [u16; MOST_RULES]
     ensures { take (len - 1) result ≡ take at rules ++ drop (suc at) (take len rules) }
 {
     let mut a = rules;
-    let mut k = at;
-    while k + 1 < len {
-        a[k] = a[k + 1];
-        k += 1;
-    }
+    a.copy_within(at + 1..len, at);
     a
 }
 
@@ -63,11 +49,7 @@ fn opened(rules: [u16; MOST_RULES], at: usize, len: usize, r: u16) -> [u16; MOST
     ensures { take (suc len) result ≡ take at rules ++ (r ∷ drop at (take len rules)) }
 {
     let mut a = rules;
-    let mut k = len;
-    while at < k {
-        a[k] = a[k - 1];
-        k -= 1;
-    }
+    a.copy_within(at..len, at + 1);
     a[at] = r;
     a
 }
@@ -78,7 +60,7 @@ fn changed(rules: [u16; MOST_RULES], len: usize) -> Edited
 {
     Edited {
         list: Running { rules, len },
-        refusal: Refusing::Nothing,
+        refusal: None,
     }
 }
 
@@ -96,11 +78,7 @@ impl Running {
     pub fn count(self) -> usize
         ensures { result ≡ length (view self) }
     {
-        if self.len < MOST_RULES {
-            self.len
-        } else {
-            MOST_RULES
-        }
+        self.len.min(MOST_RULES)
     }
 
     // The list as it stands, and why the command fails.
@@ -109,7 +87,7 @@ impl Running {
     {
         Edited {
             list: self,
-            refusal: Refusing::Failed(fault),
+            refusal: Some(fault),
         }
     }
 
@@ -143,8 +121,7 @@ impl Running {
         if !in_range(place, len) {
             return self.refused(Fault::Absent);
         }
-        let old = self.rules;
-        let rules = closed(old, place - 1, len);
+        let rules = closed(self.rules, place - 1, len);
         changed(rules, len - 1)
     }
 
@@ -165,8 +142,7 @@ impl Running {
         if MOST_RULES <= len {
             return self.refused(Fault::Place);
         }
-        let old = self.rules;
-        let rules = opened(old, i - 1, len, r);
+        let rules = opened(self.rules, i - 1, len, r);
         changed(rules, len + 1)
     }
 
@@ -178,8 +154,7 @@ impl Running {
         if !in_range(i, len) {
             return self.refused(Fault::Place);
         }
-        let old = self.rules;
-        let rules = closed(old, i - 1, len);
+        let rules = closed(self.rules, i - 1, len);
         changed(rules, len - 1)
     }
 
@@ -194,9 +169,8 @@ impl Running {
         if !in_range(j, len) {
             return self.refused(Fault::Place);
         }
-        let old = self.rules;
-        let r = old[i - 1];
-        let lifted = closed(old, i - 1, len);
+        let r = self.rules[i - 1];
+        let lifted = closed(self.rules, i - 1, len);
         let rules = opened(lifted, j - 1, len - 1, r);
         changed(rules, len)
     }
@@ -207,8 +181,7 @@ impl Running {
     {
         let len = self.count();
         let rules = self.rules;
-        let top = if size < MOST_RULES { size } else { MOST_RULES };
-        if outside(rules, len, top) {
+        if outside(rules, len, size.min(MOST_RULES)) {
             return Naming::Outside;
         }
         if twice(rules, len) {
@@ -231,14 +204,7 @@ fn outside(rules: [u16; MOST_RULES], len: usize, size: usize) -> bool
     requires { len ≤ most_rules }
     ensures { result ≡ not (all (λ r. ltb r size) (take len rules)) }
 {
-    let mut k = 0;
-    while k < len {
-        if size <= rules[k] as usize {
-            return true;
-        }
-        k += 1;
-    }
-    false
+    rules[..len].iter().any(|r| size <= *r as usize)
 }
 
 // Whether one of the first `len` rules, all below 1,024, is there twice: from the last on, each is looked for among those behind it.
@@ -247,10 +213,8 @@ fn twice(rules: [u16; MOST_RULES], len: usize) -> bool
     ensures { result ≡ not (differ (take len rules)) }
 {
     let mut seen = [false; MOST_RULES];
-    let mut k = len;
-    while 0 < k {
-        k -= 1;
-        let at = rules[k] as usize;
+    for r in rules[..len].iter().rev() {
+        let at = *r as usize;
         if seen[at] {
             return true;
         }

@@ -9,14 +9,14 @@ ghost use Rattle.policy.specs.Claims.{Admitted};
 ghost use Rattle.policy.specs.Policy.{most_rules};
 ghost use Rattle.policy.specs.Properties.{In};
 ghost use Rattle.running.specs.Running.{view};
-ghost use Rattle.plans.specs.Sending.{Sent, most_planned, field_width};
+ghost use Rattle.plans.specs.Sending.{Sent, most_planned};
 ghost use Rattle.first_stage.specs.Looking.{until};
 ghost use Rattle.first_stage.specs.FirstStage.{front_of};
 ghost use Rattle.second_stage.specs.SecondStage.{Lowered};
 
 use first_stage::{Stage, places_of};
 use places::place_of;
-use plans::field::put;
+use plans::field::{FIELD_BYTES, put};
 use policy::Command;
 use running::Running;
 
@@ -26,21 +26,26 @@ fn first_above(list: Running, from: usize, to: &[u16], place: usize) -> usize
     ensures { result ≡ from + until (λ x. ltb place (get_or to.now x 0)) (drop from (view list)) }
 {
     let len = list.count();
-    let rules = list.rules;
-    let mut at = from;
-    while at < len {
-        if place < place_of(to, rules[at]) {
-            return at;
-        }
-        at += 1;
+    match list.rules[from..len]
+        .iter()
+        .position(|rule| place < place_of(to, *rule))
+    {
+        Some(before) => from + before,
+        None => len,
     }
-    at
 }
 
 // One waiting rule, r at place i, with settled rules alone behind it: "One that is not in the target is deleted. Any other is moved to stand just
 // before the first settled rule that follows it in the target, or to the end if there is none."
-fn settle(list: Running, i: usize, r: u16, to: &[u16], sent: u16, field: &mut [u8]) -> Running
-    requires { (0 < i) × (i ≤ length (view list)) × (r < most_rules) × (sent < most_planned) × (length field.old ≡ field_width) }
+fn settle(
+    list: Running,
+    i: usize,
+    r: u16,
+    to: &[u16],
+    sent: u16,
+    field: &mut [u8; FIELD_BYTES],
+) -> Running
+    requires { (0 < i) × (i ≤ length (view list)) × (r < most_rules) × (sent < most_planned) }
     ensures { Lowered to.now list i r sent field.old result field.new }
 {
     let place = place_of(to, r);
@@ -56,9 +61,9 @@ fn settle(list: Running, i: usize, r: u16, to: &[u16], sent: u16, field: &mut [u
 }
 
 // "Second stage. Take the waiting rules from last place to first." Answers how many commands are sent then.
-pub fn stage_two(stage: Stage, target: Running, field: &mut [u8]) -> u16
+pub fn stage_two(stage: Stage, target: Running, field: &mut [u8; FIELD_BYTES]) -> u16
     requires { Admitted most_rules (view target) × ((r : ℕ) → In r (view stage.list) → r < most_rules)
-        × (stage.sent + length (second_stage (view target) (front_of stage)) ≤ most_planned) × (length field.old ≡ field_width) }
+        × (stage.sent + length (second_stage (view target) (front_of stage)) ≤ most_planned) }
     ensures { (result ≡ stage.sent + length (second_stage (view target) (front_of stage)))
         × Sent field.old stage.sent (second_stage (view target) (front_of stage)) field.new }
 {
@@ -67,10 +72,8 @@ pub fn stage_two(stage: Stage, target: Running, field: &mut [u8]) -> u16
     let mut list = stage.list;
     let mut sent = stage.sent;
     let len = list.count();
-    for k in 0..len {
-        let at = len - 1 - k;
-        let rules = list.rules;
-        let r = rules[at];
+    for at in (0..len).rev() {
+        let r = list.rules[at];
         if !settled[r as usize] {
             list = settle(list, at + 1, r, &to, sent, field);
             sent += 1;

@@ -6,13 +6,10 @@ use mathlib.Core.List.{List, [], ◌∷◌, ◌++◌, append_assoc}
 use lib.ListN.{length, get_or, drop}
 use Rattle.lines.specs.Text.{text, decimal, spaced, spaced_all}
 use Rattle.lines.specs.Printing.{Puts}
-use Rattle.lines.proofs.Lines.{Lines}
+use Rattle.lines.proofs.Lines.{Lines, following}
 use Rattle.showing.specs.Text.{numbers_text, list_text}
 
--- the text of numbers that follow, wherever they stand
-abbrev pub following : ℕ → List ℕ → List ℕ
-following k numbers = spaced_all numbers
-
+-- where none of the numbers behind the first is put
 pub none_following : (numbers old : List ℕ) (at : ℕ) → Lines following 0 numbers (spaced_all (drop 1 numbers)) old at old at 1
 none_following numbers old at = record { written = []; put = record { stored = λ fits. record { place = refl; end = omega arith } }; left = refl }
 

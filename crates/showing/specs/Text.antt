@@ -4,7 +4,7 @@ use Rattle.std.specs.Prelude.{ℕ, List, [], ◌∷◌, ◌++◌, length}
 use Rattle.std.proofs.Math.Option.{Option, none, some}
 use Rattle.policy.specs.declared.Action.{Action}
 use Rattle.policy.specs.declared.Action.TheVariants.{Deny, Permit}
-use Rattle.deployment.specs.Values.{Script}
+use Rattle.deployment.specs.Values.{Script, numbers_of, script_of}
 use Rattle.deployment.specs.Contents.{Contents}
 use Rattle.deployment.specs.File.{accepted, refused, read_file}
 use Rattle.lines.specs.Text.{text, decimal, spaced, spaced_all, named, lines_text, refused_text}
@@ -32,6 +32,15 @@ default_text Permit = text "default permit\n"
 unfoldable pub keep_text : Option (List ℕ) → List ℕ
 keep_text none = text "keep absent\n"
 keep_text (some keep) = text "keep" ++ list_text keep
+
+-- the numbers of a keep list that may be absent, and the script of a value that may be
+unfoldable pub numbers_given : Option (List ℕ) → Option (List ℕ)
+numbers_given none = none
+numbers_given (some value) = some (numbers_of value)
+
+unfoldable pub script_given : Option (List ℕ) → Option Script
+script_given none = none
+script_given (some value) = script_of value
 
 -- the script, as `script type 2 commands 3` and a line for each command, or `script absent`
 unfoldable pub script_text : Option Script → List ℕ

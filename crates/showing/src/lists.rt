@@ -1,14 +1,15 @@
 // Policies, default, keep list and script: how many, and what.
 
-ghost use Rattle.std.specs.Prelude.{◌≡◌, true, cond, ◌++◌, drop, get_or};
-ghost use Rattle.std.proofs.Math.Option.{none, some};
+ghost use Rattle.std.specs.Prelude.{◌≡◌, ℕ, List, cond, ◌++◌, drop, get_or};
+ghost use Rattle.std.proofs.Math.Option.{some};
 ghost use Rattle.deployment.specs.Values.{numbers_of, script_of};
+ghost use Rattle.deployment.specs.FieldValues.{lent};
 ghost use Rattle.reader.specs.Answers.{value_at};
 ghost use Rattle.replay.specs.Answers.{Readable};
 ghost use Rattle.lines.specs.Text.{spaced_all};
 ghost use Rattle.lines.specs.Printing.{Puts};
 ghost use Rattle.policy.specs.declared.Action.TheVariants.{Deny, Permit};
-ghost use Rattle.showing.specs.Text.{numbers_text, list_text, policies_text, default_text, keep_text, script_text};
+ghost use Rattle.showing.specs.Text.{numbers_text, list_text, policies_text, default_text, numbers_given, keep_text, script_given, script_text};
 
 use commands::commands;
 use format::{listed, number_at};
@@ -22,12 +23,9 @@ use rule_lines::heads::{LINE_END, put_head, put_sign};
 fn put_following(place: &mut [u8], at: usize, list: &[u8]) -> usize
     ensures { Puts place.old at (spaced_all (drop 1 (numbers_of list.now))) place.new result }
 {
-    let count = listed(list);
     let mut next = at;
-    let mut k = 1;
-    while k < count {
+    for k in 1..listed(list) {
         next = put_spaced(place, next, number_at(list, k) as usize);
-        k += 1;
     }
     next
 }
@@ -44,11 +42,10 @@ fn put_numbers(place: &mut [u8], at: usize, list: &[u8]) -> usize
     put_sign(place, next, LINE_END)
 }
 
-// A word and how many numbers the list value at a span of the file has, and under it the numbers.
-fn put_list(place: &mut [u8], at: usize, word: &[u8], file: &[u8], span: Span) -> usize
-    ensures { Puts place.old at (word.now ++ list_text (numbers_of (value_at span file.now))) place.new result }
+// A word and how many numbers a list value has, and under it the numbers.
+fn put_list(place: &mut [u8], at: usize, word: &[u8], list: &[u8]) -> usize
+    ensures { Puts place.old at (word.now ++ list_text (numbers_of list.now)) place.new result }
 {
-    let list = value(file, span);
     let next = put_head(place, at, word, listed(list));
     put_numbers(place, next, list)
 }
@@ -59,11 +56,11 @@ pub fn put_policies(place: &mut [u8], at: usize, file: &[u8], initial: Span, tar
         (policies_text (numbers_of (value_at initial file.now)) (numbers_of (value_at target file.now)))
         place.new result }
 {
-    let next = put_list(place, at, b"initial", file, initial);
-    put_list(place, next, b"target", file, target)
+    let next = put_list(place, at, b"initial", value(file, initial));
+    put_list(place, next, b"target", value(file, target))
 }
 
-// The default of both policies: permit where a default is there.
+// The default of both policies: permit where a default is there. Kept as a flag: no value goes with it.
 pub fn put_default(place: &mut [u8], at: usize, has: bool) -> usize
     ensures { Puts place.old at (default_text (cond has Permit Deny)) place.new result }
 {
@@ -74,13 +71,13 @@ pub fn put_default(place: &mut [u8], at: usize, has: bool) -> usize
 }
 
 // The keep list, or that it is absent.
-pub fn put_keep(place: &mut [u8], at: usize, has: bool, file: &[u8], span: Span) -> usize
-    ensures { Puts place.old at (keep_text (cond has (some (numbers_of (value_at span file.now))) none)) place.new result }
+pub fn put_keep(place: &mut [u8], at: usize, keep: Option<&[u8]>) -> usize
+    ensures { Puts place.old at (keep_text (numbers_given (lent keep.entry))) place.new result }
 {
-    if has {
-        return put_list(place, at, b"keep", file, span);
+    match keep {
+        Some(keep) => put_list(place, at, b"keep", keep),
+        None => put_word(place, at, b"keep absent\n"),
     }
-    put_word(place, at, b"keep absent\n")
 }
 
 // The type of a script value that is read: its first byte.
@@ -91,24 +88,23 @@ fn type_of(script: &[u8]) -> usize
     script[0] as usize
 }
 
-// The type of the script value at a span of the file, which is read, how many commands it has, and a line for each.
-fn put_commands(place: &mut [u8], at: usize, file: &[u8], span: Span) -> usize
-    requires { Readable (value_at span file.now) }
-    ensures { Puts place.old at (script_text (script_of (value_at span file.now))) place.new result }
+// The type of a script value that is read, how many commands it has, and a line for each.
+fn put_commands(place: &mut [u8], at: usize, script: &[u8]) -> usize
+    requires { Readable script.now }
+    ensures { Puts place.old at (script_text (script_of script.now)) place.new result }
 {
-    let script = value(file, span);
     let mut next = put_named(place, at, b"script type", type_of(script));
     next = put_head(place, next, b" commands", commands(script));
     put_lines(place, next, script)
 }
 
 // The script, or that it is absent.
-pub fn put_script(place: &mut [u8], at: usize, has: bool, file: &[u8], span: Span) -> usize
-    requires { has ≡ true → Readable (value_at span file.now) }
-    ensures { Puts place.old at (script_text (cond has (script_of (value_at span file.now)) none)) place.new result }
+pub fn put_script(place: &mut [u8], at: usize, script: Option<&[u8]>) -> usize
+    requires { (value : List ℕ) → lent script ≡ some value → Readable value }
+    ensures { Puts place.old at (script_text (script_given (lent script.entry))) place.new result }
 {
-    if has {
-        return put_commands(place, at, file, span);
+    match script {
+        Some(script) => put_commands(place, at, script),
+        None => put_word(place, at, b"script absent\n"),
     }
-    put_word(place, at, b"script absent\n")
 }

@@ -3,16 +3,15 @@
 #![tactic(auto)]
 
 use showing::{MOST_SHOWN, show_text};
-use streams::{Input, MOST_READ, first, print, print_unreadable, read_input};
+use streams::{MOST_READ, answer_input};
 
 fn main(rt: HostRuntime) {
     let mut file = [0u8; MOST_READ];
-    let input = read_input(&mut rt.stdin(), &mut file);
-    let Input::Bytes(n) = input else {
-        print_unreadable(&rt);
-        return;
-    };
     let mut place = [0u8; MOST_SHOWN];
-    let written = show_text(first(&file, n), &mut place);
-    print(&rt, &place, written);
+    answer_input(
+        &rt,
+        &mut file,
+        &mut place,
+        |file, place| show_text(file, place),
+    );
 }

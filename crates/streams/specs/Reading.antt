@@ -1,40 +1,32 @@
 -- What a read tells of the input, and what can be said of the whole: no contract says which bytes come in. Assumes nothing.
-use Rattle.std.specs.Prelude.{ℕ, zero, suc, ◌+◌, ◌<◌, ◌≤◌, min, ℤ, pos, negsuc}
-use Rattle.streams.specs.declared.Piece.{Piece}
-use Rattle.streams.specs.declared.Piece.TheVariants.{Bytes as Came, End, Failed}
-use Rattle.streams.specs.declared.Input.{Input}
-use Rattle.streams.specs.declared.Input.TheVariants.{Bytes, Unreadable}
-use Rattle.streams.specs.declared.Next.{Next}
-use Rattle.streams.specs.declared.Next.TheVariants.{More, Over}
+use Rattle.std.specs.Prelude.{ℕ, zero, suc, ◌+◌, ◌<◌, ◌≤◌, min, Result, Ok, Err}
+use Rattle.std.specs.declared.ops.ControlFlow.{ControlFlow}
+use Rattle.std.specs.declared.ops.ControlFlow.TheVariants.{Continue, Break}
+use Rattle.streams.specs.declared.Unreadable.{Unreadable}
 
--- bytes that a read brought: none are the end of the input
-abbrev pub brought : ℕ → Piece
-brought zero = End
-brought (suc n) = Came (suc n)
+-- a read that is lent `most` bytes brings as many as it answers, none at the end of the input, or fails
+abbrev pub piece_of : Result ℕ Unreadable → ℕ → Result ℕ Unreadable
+piece_of (Ok k) most = Ok (min k most)
+piece_of (Err e) most = Err e
 
--- a read that is lent `most` bytes fails by an answer below 0, and brings that many bytes by another
-abbrev pub piece_of : ℤ → ℕ → Piece
-piece_of (pos k) most = brought (min k most)
-piece_of (negsuc k) most = Failed
+-- what a piece that comes behind `done` bytes means: none are the end of the input, and a read that failed makes all of it unreadable
+abbrev pub next_of : Result ℕ Unreadable → ℕ → ControlFlow (Result ℕ Unreadable) ℕ
+next_of (Ok zero) done = Break (Ok done)
+next_of (Ok (suc n)) done = Continue (suc n)
+next_of (Err e) done = Break (Err e)
 
--- what a piece that comes behind `done` bytes means: a read that failed makes all of the input unreadable
-abbrev pub next_of : Piece → ℕ → Next
-next_of (Came n) done = More n
-next_of End done = Over (Bytes done)
-next_of Failed done = Over Unreadable
-
--- a piece that comes behind `done` bytes has at least one byte and lies within a place of `size`
-abbrev pub Fitting : Piece → ℕ → ℕ → Type 0
-Fitting (Came n) done size = (0 < n) × (done + n ≤ size)
-Fitting End done size = Unit {0}
-Fitting Failed done size = Unit {0}
+-- a piece of a byte or more that comes behind `done` bytes lies within a place of `size`
+abbrev pub Fitting : Result ℕ Unreadable → ℕ → ℕ → Type 0
+Fitting (Ok zero) done size = Unit {0}
+Fitting (Ok (suc n)) done size = done + suc n ≤ size
+Fitting (Err e) done size = Unit {0}
 
 -- what was read lies within a place of so many bytes
-abbrev pub Within : Input → ℕ → Type 0
-Within (Bytes n) size = n ≤ size
-Within Unreadable size = Unit {0}
+abbrev pub Within : Result ℕ Unreadable → ℕ → Type 0
+Within (Ok n) size = n ≤ size
+Within (Err e) size = Unit {0}
 
 -- bytes more behind `done` are at least one and lie within a place of `size`; so does what was read when it is over
-abbrev pub Going : Next → ℕ → ℕ → Type 0
-Going (More n) done size = (0 < n) × (done + n ≤ size)
-Going (Over input) done size = Within input size
+abbrev pub Going : ControlFlow (Result ℕ Unreadable) ℕ → ℕ → ℕ → Type 0
+Going (Continue n) done size = (0 < n) × (done + n ≤ size)
+Going (Break read) done size = Within read size

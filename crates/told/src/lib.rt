@@ -6,10 +6,10 @@
 ghost use Rattle.std.specs.Prelude.{◌≡◌, [], ◌∷◌};
 ghost use Rattle.std.proofs.lemmas.List.Edits.{sets};
 ghost use Rattle.policy.specs.Command.{fault_number};
-ghost use Rattle.deployment.specs.Values.{action_number};
 ghost use Rattle.told.specs.Answers.{
   told,
   turned_told,
+  span_told,
   layout_told,
   read_told,
   checked_told,
@@ -22,15 +22,11 @@ ghost use Rattle.told.specs.Answers.{
   Tells,
 };
 
-use catalogue::Checking;
-use deployment::{Refusal, Written};
-use entries::Decided;
-use judge::Judged;
-use last_list::Ran;
-use numbers::{fault_number, why_number};
-use plans::Planned;
-use policy::{Action, Fault, Verdict};
-use reader::{FileRead, Layout};
+use deployment::{Refusal, Why};
+use plans::Plan;
+use policy::{Decision, Fault, Verdict};
+use reader::{Layout, Span};
+use replay::Stop;
 
 // The number where nothing is turned away and no command fails.
 const DONE: u32 = 0;
@@ -42,31 +38,15 @@ const MOST_VALUES: usize = 14;
 fn store(answer: &mut [u64], values: &[u64])
     ensures { answer.new ≡ sets answer.old 0 values.now }
 {
-    let mut k = 0;
-    while k < values.len() && k < answer.len() {
-        answer[k] = values[k];
-        k += 1;
-    }
+    let room = values.len().min(answer.len());
+    answer[..room].copy_from_slice(&values[..room]);
 }
 
-fn tell_one(number: u32, a: u64, answer: &mut [u64]) -> u32
-    ensures { Tells (told number (a ∷ [])) result answer.old answer.new }
+// A number, and the values that belong to it.
+fn tell(number: u32, values: &[u64], answer: &mut [u64]) -> u32
+    ensures { Tells (told number values.now) result answer.old answer.new }
 {
-    store(answer, &[a]);
-    number
-}
-
-fn tell_two(number: u32, a: u64, b: u64, answer: &mut [u64]) -> u32
-    ensures { Tells (told number (a ∷ b ∷ [])) result answer.old answer.new }
-{
-    store(answer, &[a, b]);
-    number
-}
-
-fn tell_three(number: u32, a: u64, b: u64, c: u64, answer: &mut [u64]) -> u32
-    ensures { Tells (told number (a ∷ b ∷ c ∷ [])) result answer.old answer.new }
-{
-    store(answer, &[a, b, c]);
+    store(answer, values);
     number
 }
 
@@ -74,112 +54,108 @@ fn tell_three(number: u32, a: u64, b: u64, c: u64, answer: &mut [u64]) -> u32
 fn tell_turned(refusal: Refusal, answer: &mut [u64]) -> u32
     ensures { Tells (turned_told refusal) result answer.old answer.new }
 {
-    let why = refusal.why;
-    tell_one(why_number(why) as u32, refusal.at as u64, answer)
+    tell(u8::from(refusal.why) as u32, &[refusal.at as u64], answer)
 }
 
 // A command that fails: the fault's number and the step.
 fn tell_fault(fault: Fault, step: usize, answer: &mut [u64]) -> u32
     ensures { Tells (told (fault_number fault) (step ∷ [])) result answer.old answer.new }
 {
-    tell_one(fault_number(fault) as u32, step as u64, answer)
+    tell(u8::from(fault) as u32, &[step as u64], answer)
+}
+
+// Whether a value is there, its start and its size; 0 for each of one that is absent.
+fn span_words(span: Option<Span>) -> [u64; 3]
+    ensures { result ≡ span_told span }
+{
+    match span {
+        Some(span) => [1, span.start as u64, span.size as u64],
+        None => [0, 0, 0],
+    }
 }
 
 // Where the values of a file stand.
 fn tell_layout(layout: Layout, answer: &mut [u64]) -> u32
     ensures { Tells (layout_told layout) result answer.old answer.new }
 {
+    let default = span_words(layout.default);
+    let keep = span_words(layout.keep);
+    let script = span_words(layout.script);
     let values: [u64; MOST_VALUES] = [
         layout.rules as u64,
         layout.initial.start as u64,
         layout.initial.size as u64,
         layout.target.start as u64,
         layout.target.size as u64,
-        layout.has_default as u64,
-        layout.default.start as u64,
-        layout.default.size as u64,
-        layout.has_keep as u64,
-        layout.keep.start as u64,
-        layout.keep.size as u64,
-        layout.has_script as u64,
-        layout.script.start as u64,
-        layout.script.size as u64,
+        default[0],
+        default[1],
+        default[2],
+        keep[0],
+        keep[1],
+        keep[2],
+        script[0],
+        script[1],
+        script[2],
     ];
-    store(answer, &values);
-    DONE
+    tell(DONE, &values, answer)
 }
 
-pub fn tell_read(found: FileRead, answer: &mut [u64]) -> u32
+pub fn tell_read(found: Result<Layout, Refusal>, answer: &mut [u64]) -> u32
     ensures { Tells (read_told found) result answer.old answer.new }
 {
     match found {
-        FileRead::Accepted(layout) => tell_layout(layout, answer),
-        FileRead::Refused(refusal) => tell_turned(refusal, answer),
+        Ok(layout) => tell_layout(layout, answer),
+        Err(refusal) => tell_turned(refusal, answer),
     }
 }
 
-pub fn tell_checked(found: Checking, answer: &mut [u64]) -> u32
+pub fn tell_checked(found: Result<(), Why>, answer: &mut [u64]) -> u32
     ensures { Tells (checked_told found) result answer.old answer.new }
 {
     match found {
-        Checking::Good => DONE,
-        Checking::Bad(why) => tell_turned(Refusal { why, at: 0 }, answer),
+        Ok(()) => DONE,
+        Err(why) => tell_turned(why.into(), answer),
     }
 }
 
-pub fn tell_written(written: Written, answer: &mut [u64]) -> u32
+pub fn tell_written(written: Result<usize, Refusal>, answer: &mut [u64]) -> u32
     ensures { Tells (written_told written) result answer.old answer.new }
 {
     match written {
-        Written::Bytes(n) => tell_one(DONE, n as u64, answer),
-        Written::Turned(refusal) => tell_turned(refusal, answer),
+        Ok(n) => tell(DONE, &[n as u64], answer),
+        Err(refusal) => tell_turned(refusal, answer),
     }
 }
 
-// "action (0 deny, 1 permit)"
-fn action_number(action: Action) -> u64
-    ensures { result ≡ action_number action }
-{
-    match action {
-        Action::Deny => 0,
-        Action::Permit => 1,
-    }
-}
-
-pub fn tell_decided(decided: Decided, answer: &mut [u64]) -> u32
+pub fn tell_decided(decided: Result<Decision, Refusal>, answer: &mut [u64]) -> u32
     ensures { Tells (decided_told decided) result answer.old answer.new }
 {
     match decided {
-        Decided::Is(d) => {
-            let action = d.action;
-            tell_two(DONE, action_number(action), d.place as u64, answer)
-        },
-        Decided::Turned(refusal) => tell_turned(refusal, answer),
+        Ok(d) => tell(DONE, &[u8::from(d.action) as u64, d.place as u64], answer),
+        Err(refusal) => tell_turned(refusal, answer),
     }
 }
 
-pub fn tell_ran(ran: Ran, answer: &mut [u64]) -> u32
+pub fn tell_ran(ran: Result<usize, Stop<Refusal>>, answer: &mut [u64]) -> u32
     ensures { Tells (ran_told ran) result answer.old answer.new }
 {
     match ran {
-        Ran::Ended(n) => tell_one(DONE, n as u64, answer),
-        Ran::Broken(fault, step) => tell_fault(fault, step, answer),
-        Ran::Turned(refusal) => tell_turned(refusal, answer),
+        Ok(n) => tell(DONE, &[n as u64], answer),
+        Err(Stop::Broken(fault, step)) => tell_fault(fault, step, answer),
+        Err(Stop::Turned(refusal)) => tell_turned(refusal, answer),
     }
 }
 
-pub fn tell_planned(planned: Planned, answer: &mut [u64]) -> u32
+pub fn tell_planned(planned: Result<Plan, Refusal>, answer: &mut [u64]) -> u32
     ensures { Tells (planned_told planned) result answer.old answer.new }
 {
     match planned {
-        Planned::Done(plan) => tell_three(
+        Ok(plan) => tell(
             DONE,
-            plan.kept as u64,
-            plan.commands as u64,
-            plan.bytes as u64,
+            &[plan.kept as u64, plan.commands as u64, plan.bytes as u64],
             answer,
         ),
-        Planned::Turned(refusal) => tell_turned(refusal, answer),
+        Err(refusal) => tell_turned(refusal, answer),
     }
 }
 
@@ -189,15 +165,10 @@ fn tell_verdict(verdict: Verdict, answer: &mut [u64]) -> u32
 {
     match verdict {
         Verdict::Broken(fault, step) => tell_fault(fault, step, answer),
-        Verdict::Elsewhere(commands) => tell_one(
-            Verdict::ELSEWHERE as u32,
-            commands as u64,
-            answer,
-        ),
-        Verdict::Unordered(step, place) => tell_two(
+        Verdict::Elsewhere(commands) => tell(Verdict::ELSEWHERE as u32, &[commands as u64], answer),
+        Verdict::Unordered(step, place) => tell(
             Verdict::UNORDERED as u32,
-            step as u64,
-            place as u64,
+            &[step as u64, place as u64],
             answer,
         ),
         Verdict::NotFull => Verdict::NOT_FULL as u32,
@@ -205,11 +176,11 @@ fn tell_verdict(verdict: Verdict, answer: &mut [u64]) -> u32
     }
 }
 
-pub fn tell_judged(judged: Judged, answer: &mut [u64]) -> u32
+pub fn tell_judged(judged: Result<Verdict, Refusal>, answer: &mut [u64]) -> u32
     ensures { Tells (judged_told judged) result answer.old answer.new }
 {
     match judged {
-        Judged::Said(verdict) => tell_verdict(verdict, answer),
-        Judged::Turned(refusal) => tell_turned(refusal, answer),
+        Ok(verdict) => tell_verdict(verdict, answer),
+        Err(refusal) => tell_turned(refusal, answer),
     }
 }

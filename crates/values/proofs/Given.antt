@@ -4,7 +4,7 @@ use Prim.Native.Nat.{ℕ, ◌+◌, ◌*◌, ◌/◌, ◌%◌, ◌≤◌, min}
 use native.Mathlib.Nat.{min-eq_left}
 use native.Mathlib.Omega.{arith}
 use mathlib.Core.Path.{◌≡◌, refl, ◌∙◌}
-use mathlib.Core.Bool.{Bool, true, false, cond}
+use mathlib.Core.Bool.{cond}
 use mathlib.Core.List.{List, [], ◌∷◌, ◌++◌}
 use mathlib.Core.Option.{some}
 use borrow.Author.Tests.{leb-true}
@@ -20,6 +20,7 @@ use Rattle.deployment.specs.Values.{rule_width, default_width, numbers_of, list_
 use Rattle.deployment.specs.Contents.{rule_read}
 use Rattle.deployment.specs.FieldValues.{
   FieldValues,
+  lent,
   rules_read,
   catalogue_value,
   policy_value,
@@ -32,22 +33,21 @@ use Rattle.deployment.specs.declared.Why.{Why}
 use Rattle.deployment.proofs.Bytes.{length_chunks}
 use Rattle.deployment.proofs.Tests.{tested, policy_tested_lem, default_tested}
 use Rattle.catalogue.specs.Answers.{checking}
-use Rattle.catalogue.specs.declared.Checking.{Checking}
-use Rattle.values.specs.Answers.{given}
-use Rattle.catalogue.specs.declared.Checking.TheVariants.{Good, Bad}
+use Rattle.std.specs.Prelude.{Result, Ok, Err, Option as CodeOption, Some, None, is_some}
+use Rattle.std.specs.Borrow.{Bor}
 
 -- What an answer says of the tests.
 bad_good {ℓ} : {A : Type 0} {B : Type ℓ} {why : Why} {a : A} → bad why ≡ good a → B
-bad_good e = absurd (let z : ◌≡◌ {A = ℕ} 0 1 = cc in omega arith)
+bad_good e = absurd (cc)
 
-pub passed : {A : Type 0} (read : Checked A) → Good ≡ checking read → (a : A) × (read ≡ good a)
+pub passed : {A : Type 0} (read : Checked A) → (Ok tt) ≡ checking read → (a : A) × (read ≡ good a)
 unfolding checking
 passed (good a) e = (a, refl)
-passed (bad why) e = absurd (let z : ◌≡◌ {A = ℕ} 0 1 = cc in omega arith)
+passed (bad why) e = absurd (cc)
 
-pub failed : {A : Type 0} (read : Checked A) (why : Why) → Bad why ≡ checking read → read ≡ bad why
+pub failed : {A : Type 0} (read : Checked A) (why : Why) → Err why ≡ checking read → read ≡ bad why
 unfolding checking
-failed (good a) why e = absurd (let z : ◌≡◌ {A = ℕ} 0 1 = cc in omega arith)
+failed (good a) why e = absurd (cc)
 failed (bad other) why e = let same : other ≡ why = cc in rw same
 
 -- Rules that pass: as many as their bytes hold, and no more than may be.
@@ -69,7 +69,7 @@ rules_count done (piece ∷ pieces) c e = go (rule_read done piece) (λ rule. ru
     go (good rule) others f = omega (arith, length-append done (rule ∷ []), others rule f)
     go (bad why) others f = bad_good f
 
-pub rules_passed : (value : List ℕ) → Good ≡ checking (catalogue_value value) → Rules value
+pub rules_passed : (value : List ℕ) → (Ok tt) ≡ checking (catalogue_value value) → Rules value
 unfolding catalogue_value
 rules_passed value e =
     let found = passed (catalogue_value value) e in
@@ -88,7 +88,7 @@ rules_passed value e =
     record { catalogue = found.0; read = found.1; counted = both.0; few = min-eq_left (omega (arith, both.1)) }
 
 -- A policy that passes is the numbers of its value.
-pub policy_passed : (size : ℕ) (value : List ℕ) → Good ≡ checking (policy_value size value) → policy_value size value ≡ good (numbers_of value)
+pub policy_passed : (size : ℕ) (value : List ℕ) → (Ok tt) ≡ checking (policy_value size value) → policy_value size value ≡ good (numbers_of value)
 unfolding policy_value
 policy_passed size value e =
     let found = passed (policy_value size value) e in
@@ -97,15 +97,15 @@ policy_passed size value e =
     (λ fits. policy_tested_lem Right size value (λ outside. bad_good) (λ inside twice. bad_good) (λ sound passes. refl)) found.1
 
 -- a default that passes is permit where it is there, and deny where it is absent
-pub default_passed : (has : Bool) (value : List ℕ) → Good ≡ checking (default_value (given has value))
-    → default_value (given has value) ≡ good (cond has Permit Deny)
-unfolding given default_value
-default_passed false value e = refl
-default_passed true value e =
-    let found = passed (default_value (some value)) e in
+pub default_passed : (default : CodeOption (Bor (List ℕ))) → Ok tt ≡ checking (default_value (lent default))
+    → default_value (lent default) ≡ good (cond (is_some default) Permit Deny)
+unfolding lent default_value
+default_passed None e = refl
+default_passed (Some value) e =
+    let found = passed (default_value (some value.now)) e in
     let Right : Checked Action → Type 0 = λ read. read ≡ good found.0 → read ≡ good Permit in
-    tested Right (eqb (length value) default_width) (λ long. bad_good)
-    (λ fits. default_tested Right value (λ wrong. bad_good) (λ is passes. refl)) found.1
+    tested Right (eqb (length value.now) default_width) (λ long. bad_good)
+    (λ fits. default_tested Right value.now (λ wrong. bad_good) (λ is passes. refl)) found.1
 
 -- whether tests pass does not hang on what is made of the value
 pub checking_last : {A B : Type 0} (read : Checked A) (next : A → B) → checking read ≡ checking (◌>>=◌ read (λ a. good (next a)))
@@ -114,36 +114,36 @@ checking_last (good a) next = refl
 checking_last (bad why) next = refl
 
 -- All values: the first that is turned away decides.
-pub bad_rules : (v : FieldValues) (why : Why) → Bad why ≡ checking (catalogue_value v.rules) → Bad why ≡ checking (values_read v)
+pub bad_rules : (v : FieldValues) (why : Why) → Err why ≡ checking (catalogue_value v.rules) → Err why ≡ checking (values_read v)
 unfolding values_read checking
 bad_rules v why e = rw (failed (catalogue_value v.rules) why e)
 
 module _ (v : FieldValues) (rules : Rules v.rules) where
   -- what `policy_checked` answers to a policy
-  abbrev pub Answers : Checking → List ℕ → Type 0
+  abbrev pub Answers : Result Unit Why → List ℕ → Type 0
   Answers answer value = answer ≡ checking (policy_value (min (length v.rules / rule_width) 1024) value)
 
-  over : (answer : Checking) (value : List ℕ) → Answers answer value
+  over : (answer : Result Unit Why) (value : List ℕ) → Answers answer value
       → answer ≡ checking (policy_value (length rules.catalogue) value)
   over answer value e = rw rules.counted (rw rules.few at e)
 
-  good_policy : (value : List ℕ) → Answers Good value → policy_value (length rules.catalogue) value ≡ good (numbers_of value)
-  good_policy value e = policy_passed (length rules.catalogue) value (over Good value e)
+  good_policy : (value : List ℕ) → Answers (Ok tt) value → policy_value (length rules.catalogue) value ≡ good (numbers_of value)
+  good_policy value e = policy_passed (length rules.catalogue) value (over (Ok tt) value e)
 
-  bad_policy : (value : List ℕ) (why : Why) → Answers (Bad why) value → policy_value (length rules.catalogue) value ≡ bad why
-  bad_policy value why e = failed (policy_value (length rules.catalogue) value) why (over (Bad why) value e)
+  bad_policy : (value : List ℕ) (why : Why) → Answers (Err why) value → policy_value (length rules.catalogue) value ≡ bad why
+  bad_policy value why e = failed (policy_value (length rules.catalogue) value) why (over (Err why) value e)
 
-  pub bad_initial : (why : Why) → Answers (Bad why) v.initial → Bad why ≡ checking (values_read v)
+  pub bad_initial : (why : Why) → Answers (Err why) v.initial → Err why ≡ checking (values_read v)
   unfolding values_read checking
   bad_initial why e = rw (rules.read, bad_policy v.initial why e)
 
-  module _ (initial : Answers Good v.initial) where
-    pub bad_target : (why : Why) → Answers (Bad why) v.target → Bad why ≡ checking (values_read v)
+  module _ (initial : Answers (Ok tt) v.initial) where
+    pub bad_target : (why : Why) → Answers (Err why) v.target → Err why ≡ checking (values_read v)
     unfolding values_read checking
     bad_target why e = rw (rules.read, good_policy v.initial initial, bad_policy v.target why e)
 
-    module _ (target : Answers Good v.target) where
-      pub bad_default : (why : Why) → Bad why ≡ checking (default_value v.default) → Bad why ≡ checking (values_read v)
+    module _ (target : Answers (Ok tt) v.target) where
+      pub bad_default : (why : Why) → Err why ≡ checking (default_value v.default) → Err why ≡ checking (values_read v)
       unfolding values_read checking
       bad_default why e =
           rw (
@@ -153,9 +153,9 @@ module _ (v : FieldValues) (rules : Rules v.rules) where
             failed (default_value v.default) why e,
           )
 
-      module _ (default : Good ≡ checking (default_value v.default)) where
-        pub bad_keep : (why : Why) → Bad why ≡ checking (keep_value (numbers_of v.initial) (numbers_of v.target) v.keep)
-            → Bad why ≡ checking (values_read v)
+      module _ (default : (Ok tt) ≡ checking (default_value v.default)) where
+        pub bad_keep : (why : Why) → Err why ≡ checking (keep_value (numbers_of v.initial) (numbers_of v.target) v.keep)
+            → Err why ≡ checking (values_read v)
         unfolding values_read checking
         bad_keep why e =
             rw (
@@ -166,7 +166,7 @@ module _ (v : FieldValues) (rules : Rules v.rules) where
               failed (keep_value (numbers_of v.initial) (numbers_of v.target) v.keep) why e,
             )
 
-        pub by_script : (answer : Checking) → Good ≡ checking (keep_value (numbers_of v.initial) (numbers_of v.target) v.keep)
+        pub by_script : (answer : Result Unit Why) → (Ok tt) ≡ checking (keep_value (numbers_of v.initial) (numbers_of v.target) v.keep)
             → answer ≡ checking (script_value v.script) → answer ≡ checking (values_read v)
         unfolding values_read
         by_script answer keep e =

@@ -19,14 +19,14 @@ use Rattle.deployment.specs.declared.Why.TheVariants.{Outside, Twice}
 use Rattle.deployment.proofs.Records.{numbers_length}
 use Rattle.deployment.proofs.Tests.{says_list}
 use Rattle.catalogue.specs.Answers.{checking}
-use Rattle.catalogue.specs.declared.Checking.{Checking}
-use Rattle.catalogue.specs.declared.Checking.TheVariants.{Good, Bad}
+use Rattle.std.specs.Prelude.{Result, Ok, Err}
+use Rattle.deployment.specs.declared.Why.{Why}
 
 -- the answer to how a list names rules
-abbrev pub answer : Naming → Checking
-answer naming.Outside = Bad Outside
-answer naming.Twice = Bad Twice
-answer naming.Once = Good
+abbrev pub answer : Naming → Result Unit Why
+answer naming.Outside = Err Outside
+answer naming.Twice = Err Twice
+answer naming.Once = Ok tt
 
 module _ (size : ℕ) (value : List ℕ) (fits : list_fits (length value) ≡ true) where
   -- a list of the right length has no more than 1,024 numbers

@@ -20,24 +20,23 @@ use Rattle.deployment.specs.Commands.{command_count, command_at, decoded}
 use Rattle.deployment.specs.Contents.{script_read}
 use Rattle.deployment.specs.FieldValues.{script_value}
 use Rattle.deployment.specs.declared.Why.TheVariants.{Coding}
-use Rattle.deployment.specs.declared.Decoded.TheVariants.{Is, Wrong}
+use Rattle.std.specs.Prelude.{Ok, Err, Some, None, is_some}
 use Rattle.deployment.proofs.Bytes.{length_chunks}
 use Rattle.deployment.proofs.Values.{by_option}
 use Rattle.deployment.proofs.Records.{chunk_at}
 use Rattle.catalogue.specs.Answers.{checking}
 use Rattle.values.specs.Answers.{there}
-use Rattle.catalogue.specs.declared.Checking.TheVariants.{Good, Bad}
 
 -- what a decoded command says
-pub decoded_is : (o : Option Command) (c : Command) → Is c ≡ decoded o → o ≡ some c
+pub decoded_is : (o : Option Command) (c : Command) → Some c ≡ decoded o → o ≡ some c
 unfolding decoded
-decoded_is none c e = absurd (let z : ◌≡◌ {A = ℕ} 0 1 = cc in omega arith)
+decoded_is none c e = absurd (cc)
 decoded_is (some d) c e = let same : d ≡ c = cc in ap some same
 
-pub decoded_wrong : (o : Option Command) → Wrong ≡ decoded o → o ≡ none
+pub decoded_wrong : (o : Option Command) → None ≡ decoded o → o ≡ none
 unfolding decoded
 decoded_wrong none e = refl
-decoded_wrong (some d) e = absurd (let z : ◌≡◌ {A = ℕ} 0 1 = cc in omega arith)
+decoded_wrong (some d) e = absurd (cc)
 
 -- the first of the pieces
 first_read : (type : ℕ) (piece : List ℕ) (pieces : List (List ℕ)) (c : Command) → command_from type (coded_of piece) ≡ some c
@@ -69,17 +68,25 @@ module _ (value : List ℕ) (k : ℕ) where
     next : drop k (command_chunks value) ≡ get_or (command_chunks value) k [] ∷ drop (k + 1) (command_chunks value)
     next = rw add-one (drop-cons (command_chunks value) k [] (omega (arith, chunk_count)))
 
-    pub read_further : (c : Command) → command_at value k ≡ some c → read_from k value ≡ read_from (k + 1) value
-    read_further c e =
+    pub read_further : is_some (decoded (command_at value k)) ≡ true → read_from k value ≡ read_from (k + 1) value
+    unfolding decoded
+    read_further t =
+        by_option (command_at value k)
+        (λ is. never {b = is_some (decoded (command_at value k))} t (rw is))
+        (λ c is.
         rw next
         (first_read (number (part 0 1 value)) (get_or (command_chunks value) k []) (drop (k + 1) (command_chunks value)) c
-        (sym chunk_command ∙ e))
+        (sym chunk_command ∙ is)))
 
-    pub read_wrong : command_at value k ≡ none → read_from k value ≡ false
-    read_wrong e =
+    pub read_wrong : is_some (decoded (command_at value k)) ≡ false → read_from k value ≡ false
+    unfolding decoded
+    read_wrong f =
+        by_option (command_at value k)
+        (λ is.
         rw next
         (first_wrong (number (part 0 1 value)) (get_or (command_chunks value) k []) (drop (k + 1) (command_chunks value))
-        (sym chunk_command ∙ e))
+        (sym chunk_command ∙ is)))
+        (λ c is. never {b = is_some (decoded (command_at value k))} (rw is) f)
 
   pub read_all : command_count value ≤ k → read_from k value ≡ true
   unfolding every_command there
@@ -87,24 +94,24 @@ module _ (value : List ℕ) (k : ℕ) where
 
 -- 11: the type first, then the commands
 module _ (value : List ℕ) (fits : script_fits (length value) ≡ true) where
-  no_script : script_of value ≡ none → checking (script_value (some value)) ≡ Bad Coding
+  no_script : script_of value ≡ none → checking (script_value (some value)) ≡ Err Coding
   unfolding checking script_value script_read
   no_script e = rw (fits, e, script_read)
 
   pub wrong_type : is_type (number (part 0 1 value)) ≡ false
-      → checking (script_value (some value)) ≡ Bad Coding
+      → checking (script_value (some value)) ≡ Err Coding
   unfolding script_of
   wrong_type f = no_script (rw f)
 
   module _ (typed : is_type (number (part 0 1 value)) ≡ true) where
-    pub wrong_command : read_from 0 value ≡ false → checking (script_value (some value)) ≡ Bad Coding
+    pub wrong_command : read_from 0 value ≡ false → checking (script_value (some value)) ≡ Err Coding
     unfolding script_of there
     wrong_command f =
         by_option (every_command (number (part 0 1 value)) (command_chunks value))
         (λ e. no_script (rw (typed, e)))
         (λ commands e. never (ap there e) f)
 
-    pub right_script : read_from 0 value ≡ true → checking (script_value (some value)) ≡ Good
+    pub right_script : read_from 0 value ≡ true → checking (script_value (some value)) ≡ (Ok tt)
     unfolding checking script_value script_read script_of there
     right_script t =
         by_option (every_command (number (part 0 1 value)) (command_chunks value))

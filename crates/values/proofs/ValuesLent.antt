@@ -3,7 +3,6 @@
 use Prim.Native.Nat.{ℕ, ◌/◌}
 use native.Mathlib.Omega.{arith}
 use mathlib.Core.Path.{◌≡◌, sym, ◌∙◌, ap}
-use mathlib.Core.Bool.{Bool, true, false}
 use mathlib.Core.List.{List, map}
 use lib.ListN.{length}
 use Rattle.policy.specs.Claims.{Admitted}
@@ -13,20 +12,14 @@ use Rattle.deployment.specs.Values.{rule_bytes, numbers_of, numbers_bytes}
 use Rattle.deployment.specs.Contents.{Contents}
 use Rattle.deployment.specs.File.{accepted, refused}
 use Rattle.deployment.specs.FieldValues.{FieldValues, values_read, at_zero, read_values}
-use Rattle.deployment.specs.Properties.{AreBytes, IfThere, Valid}
+use Rattle.deployment.specs.Properties.{Valid}
 use Rattle.deployment.specs.Claims.{values_of, AreValues}
 use Rattle.deployment.specs.declared.Why.{Why}
 use Rattle.deployment.proofs.Values.{length_rules, policy_numbers}
 use Rattle.deployment.proofs.FieldValues.{values_written_again}
 use Rattle.catalogue.specs.Answers.{checking}
-use Rattle.values.specs.Answers.{given, values_given}
-use Rattle.catalogue.specs.declared.Checking.TheVariants.{Good, Bad}
+use Rattle.std.specs.Prelude.{Ok, Err}
 use Rattle.values.proofs.Given.{passed, failed}
-
-given_bytes_lem : (there : Bool) (value : List ℕ) → AreBytes value → IfThere AreBytes (given there value)
-unfolding given
-given_bytes_lem true value b = b
-given_bytes_lem false value b = tt
 
 rules_counted : (catalogue : List Rule) (rules : List ℕ) → joined (map rule_bytes catalogue) ≡ rules → length rules / 27 ≡ length catalogue
 rules_counted catalogue rules e = omega (arith, ap length e, length_rules catalogue)
@@ -36,60 +29,34 @@ policy_back : (c : Contents) → Valid c → (policy value : List ℕ) → Admit
 policy_back c valid policy value sound e =
     ap numbers_of (sym e) ∙ policy_numbers (length c.catalogue) policy valid.catalogue.few sound
 
--- what a caller lends
-pub record Lent : Type 0 where
-  pub rules : List ℕ
-  pub initial : List ℕ
-  pub target : List ℕ
-  pub has_default : Bool
-  pub default : List ℕ
-  pub has_keep : Bool
-  pub keep : List ℕ
-  pub has_script : Bool
-  pub script : List ℕ
-
-module _ (lent : Lent) where
-  abbrev pub values : FieldValues
-  values =
-      values_given lent.rules lent.initial lent.target lent.has_default lent.default lent.has_keep lent.keep
-      lent.has_script lent.script
-
-  pub values_refused : (why : Why) → Bad why ≡ checking (values_read values) → read_values values ≡ refused (record { why = why; at = 0 })
+-- the values that a caller lends
+module _ (v : FieldValues) where
+  pub values_refused : (why : Why) → Err why ≡ checking (values_read v) → read_values v ≡ refused (record { why = why; at = 0 })
   unfolding read_values at_zero
-  values_refused why e = ap at_zero (failed (values_read values) why e)
+  values_refused why e = ap at_zero (failed (values_read v) why e)
 
   -- the contents that are read of them
   pub record LentRead : Type 0 where
     pub contents : Contents
-    pub is : read_values values ≡ accepted contents
+    pub is : read_values v ≡ accepted contents
     pub valid : Valid contents
-    pub written : values_of contents ≡ values
-    pub counted : length lent.rules / 27 ≡ length contents.catalogue
-    pub initial : numbers_of lent.initial ≡ contents.initial
-    pub target : numbers_of lent.target ≡ contents.target
+    pub written : values_of contents ≡ v
+    pub counted : length v.rules / 27 ≡ length contents.catalogue
+    pub initial : numbers_of v.initial ≡ contents.initial
+    pub target : numbers_of v.target ≡ contents.target
 
-  pub values_accepted : AreBytes lent.rules → AreBytes lent.initial → AreBytes lent.target → AreBytes lent.default → AreBytes lent.keep
-      → AreBytes lent.script → Good ≡ checking (values_read values) → LentRead
-  unfolding read_values at_zero values_given values_of
-  values_accepted rules initial target default keep script e =
-      let are : AreValues values =
-      record {
-        rules = rules;
-        initial = initial;
-        target = target;
-        default = given_bytes_lem lent.has_default lent.default default;
-        keep = given_bytes_lem lent.has_keep lent.keep keep;
-        script = given_bytes_lem lent.has_script lent.script script;
-      } in
-      let (c, found) = passed (values_read values) e in
-      let is : read_values values ≡ accepted c = ap at_zero found in
-      let (valid, written) = values_written_again values c are is in
+  pub values_accepted : AreValues v → Ok tt ≡ checking (values_read v) → LentRead
+  unfolding read_values at_zero values_of
+  values_accepted are e =
+      let (c, found) = passed (values_read v) e in
+      let is : read_values v ≡ accepted c = ap at_zero found in
+      let (valid, written) = values_written_again v c are is in
       record {
         contents = c;
         is = is;
         valid = valid;
         written = written;
-        counted = rules_counted c.catalogue lent.rules (ap (λ (v : FieldValues). v.rules) written);
-        initial = policy_back c valid c.initial lent.initial valid.initial.sound (ap (λ (v : FieldValues). v.initial) written);
-        target = policy_back c valid c.target lent.target valid.target.sound (ap (λ (v : FieldValues). v.target) written);
+        counted = rules_counted c.catalogue v.rules (ap (λ (w : FieldValues). w.rules) written);
+        initial = policy_back c valid c.initial v.initial valid.initial.sound (ap (λ (w : FieldValues). w.initial) written);
+        target = policy_back c valid c.target v.target valid.target.sound (ap (λ (w : FieldValues). w.target) written);
       }

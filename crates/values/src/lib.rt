@@ -13,9 +13,8 @@ ghost use Rattle.deployment.specs.FieldValues.{policy_value, default_value, keep
 ghost use Rattle.catalogue.specs.Answers.{checking};
 ghost use Rattle.values.specs.Answers.{there};
 
-use catalogue::Checking;
 use commands::{command_at, commands, is_type};
-use deployment::{Decoded, Why};
+use deployment::Why;
 use format::{DEFAULT_BYTES, LIST_BYTES, PERMIT, SCRIPT_BYTES, list_of, listed, number_at};
 use running::Naming;
 
@@ -36,31 +35,30 @@ pub fn script_fits(size: usize) -> bool
 }
 
 // A policy over a catalogue of `size` rules: 4, 8, 9.
-pub fn policy_checked(value: &[u8], size: usize) -> Checking
+pub fn policy_checked(value: &[u8], size: usize) -> Result<(), Why>
     ensures { result ≡ checking (policy_value (min size most_rules) value.now) }
 {
     if !list_fits(value.len()) {
-        return Checking::Bad(Why::Length);
+        return Err(Why::Length);
     }
-    let naming = list_of(value).naming(size);
-    match naming {
-        Naming::Outside => Checking::Bad(Why::Outside),
-        Naming::Twice => Checking::Bad(Why::Twice),
-        Naming::Once => Checking::Good,
+    match list_of(value).naming(size) {
+        Naming::Outside => Err(Why::Outside),
+        Naming::Twice => Err(Why::Twice),
+        Naming::Once => Ok(()),
     }
 }
 
 // A default: 4, 50.
-pub fn default_checked(value: &[u8]) -> Checking
+pub fn default_checked(value: &[u8]) -> Result<(), Why>
     ensures { result ≡ checking (default_value (some value.now)) }
 {
     if value.len() != DEFAULT_BYTES {
-        return Checking::Bad(Why::Length);
+        return Err(Why::Length);
     }
     if value[0] != PERMIT {
-        return Checking::Bad(Why::Default);
+        return Err(Why::Default);
     }
-    Checking::Good
+    Ok(())
 }
 
 // Whether the numbers of `keep` occur in the same order in `list`.
@@ -68,29 +66,29 @@ fn occurs_in(keep: &[u8], list: &[u8]) -> bool
     ensures { result ≡ occurs (numbers_of keep.now) (numbers_of list.now) }
 {
     let count = listed(keep);
-    let top = listed(list);
-    let mut i = 0;
-    let mut j = 0;
-    while i < count && j < top {
-        if number_at(keep, i) == number_at(list, j) {
-            i += 1;
+    let mut found = 0;
+    for k in 0..listed(list) {
+        if found == count {
+            return true;
         }
-        j += 1;
+        if number_at(keep, found) == number_at(list, k) {
+            found += 1;
+        }
     }
-    i == count
+    found == count
 }
 
 // A keep list: 4, 10.
-pub fn keep_checked(value: &[u8], initial: &[u8], target: &[u8]) -> Checking
+pub fn keep_checked(value: &[u8], initial: &[u8], target: &[u8]) -> Result<(), Why>
     ensures { result ≡ checking (keep_value (numbers_of initial.now) (numbers_of target.now) (some value.now)) }
 {
     if !list_fits(value.len()) {
-        return Checking::Bad(Why::Length);
+        return Err(Why::Length);
     }
     if occurs_in(value, initial) && occurs_in(value, target) {
-        Checking::Good
+        Ok(())
     } else {
-        Checking::Bad(Why::Keep)
+        Err(Why::Keep)
     }
 }
 
@@ -98,34 +96,28 @@ pub fn keep_checked(value: &[u8], initial: &[u8], target: &[u8]) -> Checking
 fn all_commands(value: &[u8]) -> bool
     ensures { result ≡ there (every_command (number (part 0 1 value.now)) (command_chunks value.now)) }
 {
-    let count = commands(value);
-    let mut k = 0;
-    while k < count {
-        let d = command_at(value, k);
-        match d {
-            Decoded::Is(_) => {}
-            Decoded::Wrong => {
-                return false;
-            }
+    // Kept: as `(0..commands(value)).all(..)` its proof didn't close.
+    for k in 0..commands(value) {
+        if command_at(value, k).is_none() {
+            return false;
         }
-        k += 1;
     }
     true
 }
 
 // A script: 4, 11.
-pub fn script_checked(value: &[u8]) -> Checking
+pub fn script_checked(value: &[u8]) -> Result<(), Why>
     ensures { result ≡ checking (script_value (some value.now)) }
 {
     if !script_fits(value.len()) {
-        return Checking::Bad(Why::Length);
+        return Err(Why::Length);
     }
     let kind = value[0];
     if !is_type(kind) {
-        return Checking::Bad(Why::Coding);
+        return Err(Why::Coding);
     }
     if !all_commands(value) {
-        return Checking::Bad(Why::Coding);
+        return Err(Why::Coding);
     }
-    Checking::Good
+    Ok(())
 }

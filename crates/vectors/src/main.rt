@@ -2,11 +2,9 @@
 
 #![tactic(auto)]
 
-use cases::{MOST_READ, argument_count, read_argument};
+use cases::each_file;
 use listing::{judge_text, plan_text};
 use showing::{MOST_SHOWN, show_text};
-use std::env::Env;
-use std::rt::Files;
 use streams::print;
 
 // All texts of a file.
@@ -20,17 +18,6 @@ fn print_texts<R: Print + Eprint>(rt: &R, file: &[u8]) {
     print(rt, &place, shown);
 }
 
-fn print_argument<R: Env + Files + Print + Eprint>(rt: &R, i: usize) {
-    let mut file = [0u8; MOST_READ];
-    let got = read_argument(rt, i, &mut file);
-    print_texts(rt, &file[..got]);
-}
-
 fn main(rt: HostRuntime) {
-    let count = argument_count(&rt);
-    let mut i = 1;
-    while i < count {
-        print_argument(&rt, i);
-        i += 1;
-    }
+    each_file(&rt, |file| print_texts(&rt, file));
 }

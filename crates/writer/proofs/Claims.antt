@@ -1,8 +1,7 @@
 -- The writer's claims. The idea: the fields of contents are those of their field values, one by one. Assumes nothing.
 use Prim.Native.Nat.{ℕ, ◌/◌}
 use native.Mathlib.Omega.{arith}
-use mathlib.Core.Path.{◌≡◌, refl, sym, ap}
-use mathlib.Core.Bool.{Bool, true, false}
+use mathlib.Core.Path.{◌≡◌, refl, ap}
 use mathlib.Core.List.{List, [], ◌∷◌, map, append_assoc}
 use mathlib.Core.Option.{Option, none, some}
 use lib.ListN.{length}
@@ -10,11 +9,9 @@ use Rattle.policy.specs.Rule.{Rule}
 use Rattle.deployment.specs.Bytes.{joined}
 use Rattle.deployment.specs.Values.{rule_bytes, numbers_bytes, default_bytes, default_field, script_bytes}
 use Rattle.deployment.specs.File.{rule_tag, default_tag, keep_tag, script_tag, field_bytes, if_there, file_of}
-use Rattle.deployment.specs.FieldValues.{FieldValues}
 use Rattle.deployment.specs.Claims.{values_of}
-use Rattle.deployment.proofs.Values.{none_some, length_rules, rules_apart}
+use Rattle.deployment.proofs.Values.{length_rules, rules_apart}
 use Rattle.deployment.proofs.ReadBack.{valid_fits}
-use Rattle.values.specs.Answers.{given, values_given}
 use Rattle.writer.specs.Answers.{rules_bytes, field_if, lists_bytes, given_bytes}
 use Rattle.writer.specs.Claims.{GivenIsFile, GivenFits}
 use Rattle.writer.proofs.Files.{length_given}
@@ -31,32 +28,23 @@ rules_file catalogue rules e =
     each [] = refl
     each (rule ∷ catalogue) = ap (λ (l : List (List ℕ)). field_bytes rule_tag (rule_bytes rule) ∷ l) (each catalogue)
 
-there_file : {A : Type 0} (tag : ℕ) (written : A → List ℕ) (o : Option A) (there : Bool) (value : List ℕ)
-    → elim o [ none ↦ none | some a ↦ some (written a) ] ≡ given there value → if_there tag written o ≡ field_if there tag value
-unfolding given if_there field_if
-there_file tag written none false value e = refl
-there_file tag written none true value e = none_some e
-there_file tag written (some a) false value e = none_some (sym e)
-there_file tag written (some a) true value e = let same : written a ≡ value = cc in rw same
+there_file : {A : Type 0} (tag : ℕ) (written : A → List ℕ) (o : Option A)
+    → if_there tag written o ≡ field_if tag (elim o [ none ↦ none | some a ↦ some (written a) ])
+unfolding if_there field_if
+there_file tag written none = refl
+there_file tag written (some a) = refl
 
 pub given_is_file : GivenIsFile
-unfolding values_of values_given file_of lists_bytes given_bytes
-given_is_file rules initial target has-default default has-keep keep has-script script c e =
+unfolding values_of file_of lists_bytes given_bytes
+given_is_file v c e =
     rw (
-      rules_file c.catalogue rules (ap (λ (v : FieldValues). v.rules) e),
-      ap (λ (v : FieldValues). v.initial) e,
-      ap (λ (v : FieldValues). v.target) e,
-      there_file default_tag default_bytes (default_field c.default) has-default default (ap (λ (v : FieldValues). v.default) e),
-      there_file keep_tag numbers_bytes c.keep has-keep keep (ap (λ (v : FieldValues). v.keep) e),
-      there_file script_tag script_bytes c.script has-script script (ap (λ (v : FieldValues). v.script) e),
+      ← e,
+      ← rules_file c.catalogue (joined (map rule_bytes c.catalogue)) refl,
+      ← there_file default_tag default_bytes (default_field c.default),
+      ← there_file keep_tag numbers_bytes c.keep,
+      ← there_file script_tag script_bytes c.script,
     )
     (simp append_assoc)
 
 pub given_fits : GivenFits
-given_fits rules initial target has-default default has-keep keep has-script script c valid e =
-    omega (
-      arith,
-      valid_fits c valid,
-      ap length (given_is_file rules initial target has-default default has-keep keep has-script script c e),
-      length_given rules initial target has-default default has-keep keep has-script script,
-    )
+given_fits v c valid e = omega (arith, valid_fits c valid, ap length (given_is_file v c e), length_given v)

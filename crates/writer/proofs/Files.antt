@@ -3,13 +3,12 @@
 use Prim.Native.Nat.{ℕ, ◌+◌, ◌/◌, ◌≤◌, ◌<◌}
 use native.Mathlib.Omega.{arith}
 use mathlib.Core.Path.{◌≡◌, refl, sym, ◌∙◌}
-use mathlib.Core.Bool.{Bool}
 use mathlib.Core.List.{List, ◌++◌}
 use lib.ListN.{length, length-append}
 use Rattle.deployment.specs.File.{initial_tag, target_tag, default_tag, keep_tag, script_tag, field_bytes}
-use Rattle.deployment.specs.FieldValues.{left_by, writing, Stored}
+use Rattle.deployment.specs.FieldValues.{FieldValues, left_by, writing, Stored}
 use Rattle.deployment.specs.declared.Why.TheVariants.{Room}
-use Rattle.deployment.specs.declared.Written.TheVariants.{Bytes, Turned}
+use Rattle.std.specs.Prelude.{Ok, Err}
 use Rattle.deployment.proofs.Storing.{stored_fills}
 use Rattle.deployment.proofs.Lent.{no_room, with_room}
 use Rattle.deployment.proofs.ReadBack.{length_field}
@@ -29,59 +28,46 @@ module _ (rules initial target : List ℕ) where
         length_field target_tag target,
       )
 
-  -- .. with the default, and with the keep list behind it
-  module _ (has-default : Bool) (default : List ℕ) where
-    abbrev with_default_lem : List ℕ
-    with_default_lem = lists_bytes rules initial target ++ field_if has-default default_tag default
+-- .. with the default, and with the keep list behind it
+module _ (v : FieldValues) where
+  abbrev to_default : List ℕ
+  to_default = lists_bytes v.rules v.initial v.target ++ field_if default_tag v.default
 
-    pub length_with_default : length with_default_lem ≡ lists_needed (length rules) (length initial) (length target) + bytes_if has-default (length default)
-    length_with_default =
-        omega (
-          arith,
-          length-append (lists_bytes rules initial target) (field_if has-default default_tag default),
-          length_lists,
-          length_if has-default default_tag default,
-        )
+  pub length_to_default : length to_default ≡ lists_needed (length v.rules) (length v.initial) (length v.target) + bytes_if v.default
+  length_to_default =
+      omega (
+        arith,
+        length-append (lists_bytes v.rules v.initial v.target) (field_if default_tag v.default),
+        length_lists v.rules v.initial v.target,
+        length_if default_tag v.default,
+      )
 
-    module _ (has-keep : Bool) (keep : List ℕ) where
-      pub length_with_keep : length (with_default_lem ++ field_if has-keep keep_tag keep)
-          ≡ lists_needed (length rules) (length initial) (length target) + bytes_if has-default (length default) + bytes_if has-keep (length keep)
-      length_with_keep =
-          omega (
-            arith,
-            length-append with_default_lem (field_if has-keep keep_tag keep),
-            length_with_default,
-            length_if has-keep keep_tag keep,
-          )
+  pub length_to_keep : length (to_default ++ field_if keep_tag v.keep)
+      ≡ lists_needed (length v.rules) (length v.initial) (length v.target) + bytes_if v.default + bytes_if v.keep
+  length_to_keep = omega (arith, length-append to_default (field_if keep_tag v.keep), length_to_default, length_if keep_tag v.keep)
 
-      module _ (has-script : Bool) (script : List ℕ) where
-        abbrev given_size : ℕ
-        given_size =
-            needed (length rules) (length initial) (length target) has-default (length default) has-keep (length keep) has-script (length script)
+  pub length_given : length (given_bytes v) ≡ needed v
+  unfolding given_bytes
+  length_given =
+      omega (
+        arith,
+        length-append (to_default ++ field_if keep_tag v.keep) (field_if script_tag v.script),
+        length_to_keep,
+        length_if script_tag v.script,
+      )
 
-        abbrev output : List ℕ
-        output = given_bytes rules initial target has-default default has-keep keep has-script script
+  -- The two answers.
+  pub too_small : (place : List ℕ) (n : ℕ) → n ≡ needed v → length place < n
+      → left_by (Err (record { why = Room; at = n })) place ≡ writing (given_bytes v) place
+  unfolding writing
+  too_small place n is small = no_room Err (Ok (length (given_bytes v))) (given_bytes v) place n (length_given ∙ sym is) small
 
-        pub length_given : length output ≡ given_size
-        unfolding given_bytes
-        length_given =
-            omega (
-              arith,
-              length-append (with_default_lem ++ field_if has-keep keep_tag keep) (field_if has-script script_tag script),
-              length_with_keep,
-              length_if has-script script_tag script,
-            )
-
-        -- The two answers.
-        pub too_small : (place : List ℕ) (n : ℕ) → n ≡ given_size → length place < n
-            → left_by (Turned (record { why = Room; at = n })) place ≡ writing output place
-        unfolding writing
-        too_small place n is small = no_room Turned (Bytes (length output)) output place n (length_given ∙ sym is) small
-
-        pub all_put : (place : List ℕ) {now : List ℕ} {end : ℕ} → given_size ≤ length place
-            → Stored place 0 (with_default_lem ++ field_if has-keep keep_tag keep ++ field_if has-script script_tag script) now end
-            → left_by (Bytes end) now ≡ writing output place
-        unfolding writing given_bytes
-        all_put place room put =
-            let ends : length output ≡ _ = sym (put.end ∙ omega arith) in
-            rw (sym ends) (with_room Turned (Bytes (length output)) output place (length output) refl (omega (arith, length_given)) (stored_fills put (omega (arith, length_given))))
+  pub all_put : (place : List ℕ) {now : List ℕ} {end : ℕ} → needed v ≤ length place
+      → Stored place 0 (to_default ++ field_if keep_tag v.keep ++ field_if script_tag v.script) now end
+      → left_by (Ok end) now ≡ writing (given_bytes v) place
+  unfolding writing given_bytes
+  all_put place room put =
+      let ends : length (given_bytes v) ≡ _ = sym (put.end ∙ omega arith) in
+      rw (sym ends)
+      (with_room Err (Ok (length (given_bytes v))) (given_bytes v) place (length (given_bytes v)) refl (omega (arith, length_given))
+      (stored_fills put (omega (arith, length_given))))

@@ -1,18 +1,14 @@
 -- The pieces that the writer puts: a field, its head first, and a field for each rule. Assumes nothing.
-use Prim.Native.Nat.{ℕ, zero, suc, ◌+◌, ◌*◌, ◌-◌, ◌/◌, ◌%◌, ◌≤◌, ◌<◌}
-use native.Mathlib.Nat.{suc-add, zero-mul, suc-mul, add_comm}
+use Prim.Native.Nat.{ℕ, zero, suc, ◌+◌, ◌*◌, ◌/◌, ◌%◌, ◌≤◌, ◌<◌}
 use native.Mathlib.Numerals.{add-one}
 use native.Mathlib.Omega.{arith}
-use mathlib.Core.Path.{◌≡◌, refl, ◌∙◌, ap}
-use mathlib.Core.Bool.{Bool, true, false}
-use mathlib.Core.List.{List, [], ◌∷◌, ◌++◌}
+use mathlib.Core.Path.{◌≡◌, refl}
+use mathlib.Core.Option.{Option, none, some}
+use mathlib.Core.List.{List, [], ◌++◌}
 use lib.ListN.{length, take, drop, set, length-append, length-drop}
-use lib.Seq.{sets, length-take-le, drop-drop}
-use Rattle.deployment.specs.Bytes.{bytes_of, part, chunks, joined}
+use lib.Seq.{sets, length-take-le, take_at, drop_at}
+use Rattle.deployment.specs.Bytes.{bytes_of, chunks, joined}
 use Rattle.deployment.specs.File.{rule_tag, field_bytes}
-use Rattle.deployment.proofs.Bytes.{length_part}
-use Rattle.deployment.proofs.Records.{part_between}
-use Rattle.deployment.proofs.Fields.{joined_snoc, map_snoc}
 use Rattle.deployment.proofs.ReadBack.{length_field}
 use Rattle.writer.specs.Answers.{rules_bytes, field_if, bytes_if}
 
@@ -28,30 +24,22 @@ field_put place at tag value small few =
     let three : at + 3 ≡ suc (suc (suc at)) = omega arith in
     rw (tagged, high, add-one, two, three)
 
-pub length_if : (there : Bool) (tag : ℕ) (value : List ℕ) → length (field_if there tag value) ≡ bytes_if there (length value)
+pub length_if : (tag : ℕ) (value : Option (List ℕ)) → length (field_if tag value) ≡ bytes_if value
 unfolding field_if bytes_if
-length_if true tag value = length_field tag value
-length_if false tag value = refl
+length_if tag none = refl
+length_if tag (some value) = length_field tag value
 
--- Fields of rules.
-chunks_more : (width count : ℕ) (l : List ℕ)
-    → chunks width (count + 1) l ≡ chunks width count l ++ (part (count * width) width l ∷ [])
-unfolding chunks part
-chunks_more width zero l = rw zero-mul
-chunks_more width (suc count) l =
-    rw (suc-add, chunks_more width count (drop width l), drop-drop, suc-mul, add_comm (count * width) width)
+-- Fields of rules: that of the first, and those of the rest.
+pub rules_next : (rule rest : List ℕ) → length rule ≡ 27
+    → rules_bytes (length (rule ++ rest) / 27) (rule ++ rest) ≡ field_bytes rule_tag rule ++ rules_bytes (length rest / 27) rest
+unfolding rules_bytes chunks joined
+rules_next rule rest long =
+    let one_more : length (rule ++ rest) / 27 ≡ suc (length rest / 27) = omega (arith, length-append rule rest) in
+    rw (one_more, take_at rule rest 27 long, drop_at rule rest 27 long)
 
--- the piece that a turn takes, as the code cuts it
-abbrev pub rule_at : ℕ → List ℕ → List ℕ
-rule_at count rules = take (count * 27 + 27 - count * 27) (drop (count * 27) rules)
-
-pub length_rule_at : (count : ℕ) (rules : List ℕ) → count < length rules / 27 → length (rule_at count rules) ≡ 27
-length_rule_at count rules h = ap length (part_between (count * 27) 27 rules) ∙ length_part (count * 27) 27 rules (omega arith)
-
-pub rules_more : (count : ℕ) (rules : List ℕ)
-    → rules_bytes (count + 1) rules ≡ rules_bytes count rules ++ field_bytes rule_tag (rule_at count rules)
-unfolding rules_bytes
-rules_more count rules = rw (chunks_more 27 count rules, map_snoc, joined_snoc, part_between (count * 27) 27 rules)
+pub no_rules : (rest : List ℕ) → length rest < 27 → rules_bytes (length rest / 27) rest ≡ []
+unfolding rules_bytes chunks joined
+no_rules rest few = let none_left : length rest / 27 ≡ 0 = omega arith in rw none_left
 
 pub length_rules : (count : ℕ) (rules : List ℕ) → count ≤ length rules / 27 → length (rules_bytes count rules) ≡ count * 30
 unfolding rules_bytes chunks joined

@@ -5,70 +5,44 @@
 
 ghost use Rattle.std.specs.Prelude.{◌≡◌, ◌+◌, ◌*◌, ◌/◌, ◌≤◌, ◌<◌, length};
 ghost use Rattle.deployment.specs.File.{field_bytes};
-ghost use Rattle.deployment.specs.FieldValues.{left_by, writing, Stored};
+ghost use Rattle.deployment.specs.FieldValues.{lent, left_by, writing, Stored};
 ghost use Rattle.writer.specs.Answers.{rules_bytes, lists_bytes, given_bytes, field_if, bytes_if, lists_needed, needed};
 
-use deployment::{Refusal, Why, Written};
+use deployment::{Refusal, Why};
 use format::{
     DEFAULT_TAG, HEAD_BYTES, INITIAL_TAG, KEEP_TAG, RULE_BYTES, RULE_TAG, SCRIPT_TAG, TARGET_TAG,
     store,
 };
+use values::lists::Values;
 
-// Writes the file of accepted field values into the first bytes of `place`; the default, the keep list and the script are
-// there if their `has_` says so. 13 where the place is too small: it then keeps its bytes.
-pub fn write_into(
-    rules: &[u8],
-    initial: &[u8],
-    target: &[u8],
-    has_default: bool,
-    default: &[u8],
-    has_keep: bool,
-    keep: &[u8],
-    has_script: bool,
-    script: &[u8],
-    place: &mut [u8],
-) -> Written
-    requires { needed (length rules.now) (length initial.now) (length target.now) has_default (length default.now) has_keep (length keep.now)
-        has_script (length script.now) < 65536 }
-    ensures { left_by result place.new
-        ≡ writing
-        (given_bytes rules.now initial.now target.now has_default default.now has_keep keep.now
-        has_script script.now)
-        place.old }
+// Writes the file of accepted field values into the first bytes of `place`. 13 where the place is too small: it then keeps its bytes.
+pub fn write_into(values: &Values<'_>, place: &mut [u8]) -> Result<usize, Refusal>
+    requires { needed values.now < 65536 }
+    ensures { left_by result place.new ≡ writing (given_bytes values.now) place.old }
 {
-    let needed = bytes_needed(
-        rules.len(),
-        initial.len(),
-        target.len(),
-        has_default,
-        default.len(),
-        has_keep,
-        keep.len(),
-        has_script,
-        script.len(),
-    );
+    let needed = bytes_needed(values);
     if place.len() < needed {
-        return Written::Turned(Refusal {
+        return Err(Refusal {
             why: Why::Room,
             at: needed,
         });
     }
-    let mut at = put_lists(place, rules, initial, target);
-    at = put_if(place, at, has_default, DEFAULT_TAG, default);
-    at = put_if(place, at, has_keep, KEEP_TAG, keep);
-    at = put_if(place, at, has_script, SCRIPT_TAG, script);
-    Written::Bytes(at)
+    let mut at = put_lists(place, values);
+    at = put_if(place, at, DEFAULT_TAG, values.default);
+    at = put_if(place, at, KEEP_TAG, values.keep);
+    at = put_if(place, at, SCRIPT_TAG, values.script);
+    Ok(at)
 }
 
 // The fields of the rules and of both policies, from the start on.
-fn put_lists(place: &mut [u8], rules: &[u8], initial: &[u8], target: &[u8]) -> usize
-    requires { (lists_needed (length rules.now) (length initial.now) (length target.now) ≤ length place.old)
-        × (length initial.now < 65536) × (length target.now < 65536) }
-    ensures { Stored place.old 0 (lists_bytes rules.now initial.now target.now) place.new result }
+fn put_lists(place: &mut [u8], values: &Values<'_>) -> usize
+    requires { (lists_needed (length values.now.rules) (length values.now.initial) (length values.now.target) ≤ length place.old)
+        × (length values.now.initial < 65536) × (length values.now.target < 65536) }
+    ensures { Stored place.old 0 (lists_bytes values.now.rules values.now.initial values.now.target) place.new result }
 {
-    let mut at = put_rules(place, rules);
-    at = put_field(place, at, INITIAL_TAG, initial);
-    put_field(place, at, TARGET_TAG, target)
+    let mut at = put_rules(place, values.rules);
+    at = put_field(place, at, INITIAL_TAG, values.initial);
+    put_field(place, at, TARGET_TAG, values.target)
 }
 
 // "a one-byte tag, a two-byte length, the value", from `at` on; the answer is the position behind it.
@@ -86,14 +60,13 @@ fn put_field(place: &mut [u8], at: usize, tag: u8, value: &[u8]) -> usize
 }
 
 // The same for a field that may be absent.
-fn put_if(place: &mut [u8], at: usize, there: bool, tag: u8, value: &[u8]) -> usize
-    requires { (at + bytes_if there (length value.now) ≤ length place.old) × (bytes_if there (length value.now) < 65536) }
-    ensures { Stored place.old at (field_if there tag value.now) place.new result }
+fn put_if(place: &mut [u8], at: usize, tag: u8, value: Option<&[u8]>) -> usize
+    requires { (at + bytes_if (lent value) ≤ length place.old) × (bytes_if (lent value) < 65536) }
+    ensures { Stored place.old at (field_if tag (lent value.entry)) place.new result }
 {
-    if there {
-        put_field(place, at, tag, value)
-    } else {
-        at
+    match value {
+        Some(value) => put_field(place, at, tag, value),
+        None => at,
     }
 }
 
@@ -102,44 +75,33 @@ fn put_rules(place: &mut [u8], rules: &[u8]) -> usize
     requires { length rules.now / 27 * 30 ≤ length place.old }
     ensures { Stored place.old 0 (rules_bytes (length rules.now / 27) rules.now) place.new result }
 {
-    let count = rules.len() / RULE_BYTES;
     let mut at = 0;
-    let mut k = 0;
-    while k < count {
-        let start = k * RULE_BYTES;
-        at = put_field(place, at, RULE_TAG, &rules[start..start + RULE_BYTES]);
-        k += 1;
+    for rule in rules.chunks_exact(RULE_BYTES) {
+        at = put_field(place, at, RULE_TAG, rule);
     }
     at
 }
 
 // How many bytes a field that may be absent needs.
-fn bytes_if(there: bool, size: usize) -> usize
-    requires { bytes_if there size < 65536 }
-    ensures { result ≡ bytes_if there size }
+fn bytes_if(value: Option<&[u8]>) -> usize
+    requires { bytes_if (lent value) < 65536 }
+    ensures { result ≡ bytes_if (lent value.entry) }
 {
-    if there { HEAD_BYTES + size } else { 0 }
+    match value {
+        Some(value) => HEAD_BYTES + value.len(),
+        None => 0,
+    }
 }
 
-// 13: the bytes needed for values of these lengths.
-fn bytes_needed(
-    rules: usize,
-    initial: usize,
-    target: usize,
-    has_default: bool,
-    default: usize,
-    has_keep: bool,
-    keep: usize,
-    has_script: bool,
-    script: usize,
-) -> usize
-    requires { needed rules initial target has_default default has_keep keep has_script script < 65536 }
-    ensures { result ≡ needed rules initial target has_default default has_keep keep has_script script }
+// 13: the bytes needed for values.
+fn bytes_needed(values: &Values<'_>) -> usize
+    requires { needed values.now < 65536 }
+    ensures { result ≡ needed values.now }
 {
-    let lists = HEAD_BYTES + initial + HEAD_BYTES + target;
-    rules / RULE_BYTES * (HEAD_BYTES + RULE_BYTES)
+    let lists = HEAD_BYTES + values.initial.len() + HEAD_BYTES + values.target.len();
+    values.rules.len() / RULE_BYTES * (HEAD_BYTES + RULE_BYTES)
         + lists
-        + bytes_if(has_default, default)
-        + bytes_if(has_keep, keep)
-        + bytes_if(has_script, script)
+        + bytes_if(values.default)
+        + bytes_if(values.keep)
+        + bytes_if(values.script)
 }

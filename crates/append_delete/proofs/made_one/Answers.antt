@@ -8,7 +8,6 @@ marked-marks-requires c = kept_inside _ _ c.kept_run-kept.result c.kept_run-kept
 
 pub send_appends-commands-requires : goal.send_appends-commands-requires
 send_appends-commands-requires c = (
-  c.send_deletes-deleted.ensures.1.long,
   kept_inside _ _ c.kept_run-kept.result c.kept_run-kept.ensures,
   rw c.send_deletes-deleted.ensures.0
       (plan_few _ _ c.kept_run-kept.result c.kept_run-kept.ensures c.marked-marks.result c.requires.0.inside c.marked-marks.ensures

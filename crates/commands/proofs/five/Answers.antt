@@ -1,7 +1,7 @@
 -- `five` meets its contract: each byte is the remainder that the definition takes. Assumes nothing.
-use Prim.Native.Nat.{◌/◌, ◌%◌}
-use mathlib.Core.Path.{◌≡◌}
+use Prim.Native.Nat.{◌%◌}
 use native.Mathlib.Omega.{arith}
+use mathlib.Core.Path.{◌≡◌}
 use Rattle.deployment.specs.Bytes.{bytes_of}
 use Rattle.deployment.specs.Values.{coded_bytes}
 use Rattle.commands.proofs.five.Goals as goal
@@ -10,6 +10,4 @@ pub returns : goal.returns
 unfolding coded_bytes bytes_of
 returns c =
     let code : c.args.code % 256 ≡ c.args.code = omega arith in
-    let one : c.args.one / 256 % 256 ≡ c.args.one / 256 = omega arith in
-    let two : c.args.two / 256 % 256 ≡ c.args.two / 256 = omega arith in
-    rw (code, one, two)
+    rw (code, c.to_be_bytes-ones.ensures, c.to_be_bytes-twos.ensures)

@@ -1,7 +1,5 @@
-use Prim.Native.Nat.{ℕ, ◌-◌}
-use mathlib.Core.Path.{◌≡◌}
+use Prim.Native.Nat.{ℕ}
 use mathlib.Core.List.{List}
-use lib.ListN.{length}
 use Rattle.policy.specs.declared.Command.{Command}
 use Rattle.console.specs.declared.Maker.{Maker}
 use Rattle.deployment.specs.Values.{script_of}
@@ -16,8 +14,4 @@ from m k commands = script_text m commands
 
 abbrev pub invariant-loop-k : goal.invariant-loop-k
 invariant-loop-k l =
-    (length l.place ≡ length l.initial.place)
-    × (Readable l.script → Lines (from l.maker) 0 (commands_of (script_of l.script)) (script_text l.maker (commands_of (script_of l.script))) l.initial.place 0 l.place l.next l.k)
-
-abbrev pub decreases-loop-k : goal.decreases-loop-k
-decreases-loop-k l = l.count - l.k
+    Readable l.script → Lines (from l.maker) 0 (commands_of (script_of l.script)) (script_text l.maker (commands_of (script_of l.script))) l.initial.place 0 l.place l.next l.k

@@ -1,9 +1,6 @@
--- `decided` meets its contract. The loop's invariant: of the list's rules `left` are left to try, and none of those before them matches.
--- The measure is `left`. Assumes nothing.
-use Prim.Native.Nat.{◌+◌, ◌-◌}
-use native.Mathlib.Nat.{sub_self}
+-- `decided` meets its contract. The loop's invariant: none of the list's first k rules matches. Assumes nothing.
 use native.Mathlib.Omega.{arith}
-use mathlib.Core.Path.{◌≡◌, sym}
+use mathlib.Core.Path.{sym}
 use Rattle.policy.specs.Policy.{Matching, Policy, under, matching}
 use Rattle.deployment.specs.Values.{numbers_of}
 use Rattle.deployment.specs.Catalogue.{catalogue_of}
@@ -18,50 +15,26 @@ asked s = matching (catalogue_of s.args.skip s.args.rules.now) s.args.flow
 abbrev deciding : Start → Policy
 deciding s = under s.args.default (numbers_of s.args.list.now)
 
-pub loop-left-init : goal.loop-left-init
-loop-left-init c =
-    (omega arith, rw (sub_self c.listed-count.result) (passed_none (asked (goal.at.loop-left-init c).Start) (deciding (goal.at.loop-left-init c).Start)))
-
-pub overflow_sub-k : goal.overflow_sub-k
-overflow_sub-k c = omega arith
-
-pub overflow_cast-n : goal.overflow_cast-n
-overflow_cast-n c = omega arith
-
-pub overflow_add-place : goal.overflow_add-place
-overflow_add-place c = omega arith
+pub loop-k-init : goal.loop-k-init
+loop-k-init c = passed_none (asked (goal.at.loop-k-init c).Start) (deciding (goal.at.loop-k-init c).Start)
 
 pub returns-then-hit : goal.returns-then-hit
 unfolding matching
 returns-then-hit c =
-    let read = c.number_at-n in
-    let test = c.hit in
+    let start = (goal.at.returns-then-hit c).Start in
     rw c.action.ensures
-    (sym (decides_here (asked (goal.at.returns-then-hit c).Start) (deciding (goal.at.returns-then-hit c).Start) (c.listed-count.result - c.loop-left.left) read.result test.result
-    c.loop-left.invariant.1 (omega arith) read.ensures test.ensures c.if-hit.true))
+    (sym (decides_here (asked start) (deciding start) c.loop-k.k c.number_at-n.result c.hit.result
+    c.loop-k.invariant (omega arith) c.number_at-n.ensures c.hit.ensures c.if-hit.true))
 
-pub overflow_sub-left : goal.overflow_sub-left
-overflow_sub-left c = omega arith
-
-pub loop-left-smaller : goal.loop-left-smaller
-loop-left-smaller c = omega arith
-
-pub loop-left-preserved : goal.loop-left-preserved
+pub loop-k-preserved : goal.loop-k-preserved
 unfolding matching
-loop-left-preserved c =
-    let read = c.number_at-n in
-    let test = c.hit in
-    let count = c.listed-count.result in
-    let left = c.loop-left.left in
-    let next : count - (left - 1) ≡ count - left + 1 = omega arith in (
-      omega arith,
-      rw next
-          (passed_more (asked (goal.at.loop-left-preserved c).Start) (deciding (goal.at.loop-left-preserved c).Start) (count - left) read.result
-          test.result c.loop-left.invariant.1 (omega arith) read.ensures test.ensures c.if-hit.false),
-    )
+loop-k-preserved c =
+    let start = (goal.at.loop-k-preserved c).Start in
+    passed_more (asked start) (deciding start) c.loop-k.k c.number_at-n.result c.hit.result
+    c.loop-k.invariant (omega arith) c.number_at-n.ensures c.hit.ensures c.if-hit.false
 
 pub returns : goal.returns
 unfolding matching
 returns c =
-    sym (decides_none (asked (goal.at.returns c).Start) (deciding (goal.at.returns c).Start)
-    (c.listed-count.result - c.loop-left.left) c.loop-left.invariant.1 (omega arith))
+    let start = (goal.at.returns c).Start in
+    sym (decides_none (asked start) (deciding start) c.loop-k.k c.loop-k.invariant (omega arith))

@@ -19,7 +19,7 @@ returns-then-not-old c =
     let stage = a.stage in
     let gives =
     ins_gives c.ins-edited.result (view stage.list) _ a.r c.ins-edited.ensures pre.2 (omega arith) (omega (arith, pre.0)) pre.1 in
-    λ h st kept. did_insert stage h st a.r a.field.now pre.4 pre.3 pre.2 a.old a.keep c.joined_by.result _
+    λ h st kept. did_insert stage h st a.r a.field.now c.told-field pre.3 pre.2 a.old a.keep c.joined_by.result _
     c.ins-edited.result.list c.if-not-old.true gives c.joined_by.ensures.0 c.joined_by.ensures.1
 
 -- the rule is found inside the list, or at its end
@@ -44,7 +44,7 @@ pub returns-then-keep : goal.returns-then-keep
 returns-then-keep c =
     let a = c.args in
     let pre = c.requires in
-    λ h st kept. did_reach a.stage h st a.r a.field.now pre.4 pre.3 pre.2 a.old a.keep c.joined.result _
+    λ h st kept. did_reach a.stage h st a.r a.field.now c.told-field pre.3 pre.2 a.old a.keep c.joined.result _
     c.if-not-old.false c.seek-at.result c.seek-at.ensures
     c.if-keep.true (kept c.if-keep.true) c.joined.ensures refl
 
@@ -52,7 +52,7 @@ pub returns-then-at-count : goal.returns-then-at-count
 returns-then-at-count c =
     let a = c.args in
     let pre = c.requires in
-    λ h st kept. did_pass a.stage h st a.r a.field.now pre.4 pre.3 pre.2 a.old a.keep a.stage _
+    λ h st kept. did_pass a.stage h st a.r a.field.now c.told-field pre.3 pre.2 a.old a.keep a.stage _
     c.if-not-old.false c.seek-at.result c.seek-at.ensures
     c.if-keep.false (c.if-at-count.true ∙ c.count.ensures) refl refl
 
@@ -60,7 +60,7 @@ pub returns-then-at-front : goal.returns-then-at-front
 returns-then-at-front c =
     let a = c.args in
     let pre = c.requires in
-    λ h st kept. did_stay a.stage h st a.r a.field.now pre.4 pre.3 pre.2 a.old a.keep c.joined-then-at-front.result _
+    λ h st kept. did_stay a.stage h st a.r a.field.now c.told-field pre.3 pre.2 a.old a.keep c.joined-then-at-front.result _
     c.if-not-old.false c.seek-at.result c.seek-at.ensures
     c.if-keep.false (λ e. c.if-at-count.false (e ∙ sym c.count.ensures)) c.if-at-front.true c.joined-then-at-front.ensures refl
 
@@ -76,7 +76,7 @@ returns c =
     let pre = c.requires in
     let gives =
     mov_gives c.mov-edited.result (view a.stage.list) _ _ c.mov-edited.ensures (omega arith) (omega (arith, inside (goal.at.returns c).Else-at-count)) (omega arith) (omega (arith, inside (goal.at.returns c).Else-at-count)) in
-    λ h st kept. did_move a.stage h st a.r a.field.now pre.4 pre.3 pre.2 a.old a.keep c.joined_by-2.result _
+    λ h st kept. did_move a.stage h st a.r a.field.now c.told-field pre.3 pre.2 a.old a.keep c.joined_by-2.result _
     c.if-not-old.false c.seek-at.result c.seek-at.ensures
     c.if-keep.false (λ e. c.if-at-count.false (e ∙ sym c.count.ensures)) c.mov-edited.result.list c.if-at-front.false
     gives c.joined_by-2.ensures.0 c.joined_by-2.ensures.1

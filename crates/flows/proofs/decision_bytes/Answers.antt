@@ -6,4 +6,4 @@ use Rattle.flows.proofs.decision_bytes.Goals as goal
 
 pub returns : goal.returns
 unfolding decision_bytes bytes_of
-returns c = rw (c.action_byte.ensures, action_is_byte)
+returns c = rw (c.into.ensures, action_is_byte)

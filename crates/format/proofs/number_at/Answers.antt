@@ -5,7 +5,8 @@ use native.Mathlib.Omega.{arith}
 use mathlib.Core.Path.{◌≡◌, sym, ◌∙◌, ap}
 use lib.ListN.{length}
 use Rattle.deployment.specs.Bytes.{number}
-use Rattle.deployment.proofs.Records.{numbers_length, number_at_lem, number_past, part_elements}
+use Rattle.deployment.proofs.Records.{numbers_length, number_at_lem, number_past, part_between}
+use Rattle.format.proofs.Numbers.{two_fit}
 use Rattle.format.proofs.number_at.Goals as goal
 use Rattle.format.proofs.number_at.Goals.{After-listed, Else-listed-k}
 
@@ -20,8 +21,9 @@ inside c = omega (arith, counted (goal.at.Else-listed-k c).After-listed)
 pub returns : goal.returns
 returns c =
     let a = c.args in
-    c.two.ensures
-    ∙ sym (number_at_lem a.value.now a.k (inside (goal.at.returns c).Else-listed-k) ∙ ap number (part_elements (2 * a.k) 1 a.value.now (omega (arith, inside (goal.at.returns c).Else-listed-k))))
+    c.number_of.ensures
+    ∙ ap number (part_between (2 * a.k) 2 a.value.now)
+    ∙ sym (number_at_lem a.value.now a.k (inside (goal.at.returns c).Else-listed-k))
 
 pub returns-then-listed-k : goal.returns-then-listed-k
 returns-then-listed-k c =
@@ -31,11 +33,14 @@ returns-then-listed-k c =
 pub overflow_mul-at : goal.overflow_mul-at
 overflow_mul-at c = omega (arith, inside c)
 
-pub bounds-value-at : goal.bounds-value-at
-bounds-value-at c = omega (arith, inside (goal.at.bounds-value-at c).Else-listed-k)
-
 pub overflow_add-at : goal.overflow_add-at
 overflow_add-at c = omega (arith, inside (goal.at.overflow_add-at c).Else-listed-k)
 
-pub bounds-value-at-2 : goal.bounds-value-at-2
-bounds-value-at-2 c = omega (arith, inside (goal.at.bounds-value-at-2 c).Else-listed-k)
+pub slice_bounds-number_of-end : goal.slice_bounds-number_of-end
+slice_bounds-number_of-end c = omega (arith, inside (goal.at.slice_bounds-number_of-end c).Else-listed-k)
+
+pub overflow_cast-result : goal.overflow_cast-result
+overflow_cast-result c =
+    let a = c.args in
+    let is = c.number_of.ensures ∙ ap number (part_between (2 * a.k) 2 a.value.now) in
+    omega (arith, is, two_fit (2 * a.k) a.value.now (λ i. omega (arith, c.type_inv.value i)) (omega (arith, inside (goal.at.overflow_cast-result c).Else-listed-k)))

@@ -9,7 +9,8 @@ use Rattle.deployment.proofs.Records.{part_to_end}
 use Rattle.iptables.specs.Options.{target_of}
 use Rattle.iptables.specs.Listing.{are_counters, forward_read}
 use Rattle.iptables_rule.specs.Found.{words_from, target_told}
-use Rattle.iptables_rule.specs.declared.Target.{Target}
+use Rattle.std.specs.Prelude.{Option as CodeOption}
+use Rattle.policy.specs.declared.Action.{Action}
 use Rattle.iptables_rule.proofs.Turns.{word_from, name_inside}
 use Rattle.iptables_lines.specs.Told.{line_told}
 use Rattle.iptables_lines.proofs.Behind.{default_told, no_policy, one_word, more_words, two_words}
@@ -36,7 +37,7 @@ inside : (c : Else-middle-line) → middle (goal.at.Else-middle-line c).After-cu
 inside c =
     omega (arith, (name_inside (line (goal.at.Else-middle-line c).After-cut-middle) (at (goal.at.Else-middle-line c).After-cut-middle) (middle (goal.at.Else-middle-line c).After-cut-middle) c.if-line-at.false c.cut-middle.ensures).1, c.if-middle-line.false)
 
-told : (c : Else-cut-counters) (target : Target)
+told : (c : Else-cut-counters) (target : CodeOption Action)
     → target ≡ target_told (target_of (policy (goal.at.Else-cut-counters c).After-cut-middle))
     → default_told target (are_counters (rest (goal.at.Else-cut-counters c).After-cut-middle)) ≡ line_told (forward_read (words_from (at (goal.at.Else-cut-counters c).After-cut-middle) (line (goal.at.Else-cut-counters c).After-cut-middle)))
 told c =
@@ -46,18 +47,18 @@ told c =
 pub returns : goal.returns
 unfolding default_told part
 returns c =
-    let is = told (goal.at.returns c).Else-cut-counters _ (sym c.in-Is.is ∙ c.target_of-target.ensures) in
+    let is = told (goal.at.returns c).Else-cut-counters _ (c.in-Some.ensures) in
     rw (sym c.are_counters.ensures ∙ c.if-not-are_counters.false) at is
 
 pub returns-then-not-are_counters : goal.returns-then-not-are_counters
 unfolding default_told part
 returns-then-not-are_counters c =
-    let is = told (goal.at.returns-then-not-are_counters c).Else-cut-counters _ (sym c.in-Is.is ∙ c.target_of-target.ensures) in
+    let is = told (goal.at.returns-then-not-are_counters c).Else-cut-counters _ (c.in-Some.ensures) in
     rw (sym c.are_counters.ensures ∙ c.if-not-are_counters.true) at is
 
 pub returns-in_default : goal.returns-in_default
 unfolding default_told part
-returns-in_default c = told (goal.at.returns-in_default c).Else-cut-counters _ (sym c.in_default.is ∙ c.target_of-target.ensures)
+returns-in_default c = told (goal.at.returns-in_default c).Else-cut-counters _ (sym c.in_default.is ∙ c.target_of.ensures)
 
 pub returns-then-cut-counters : goal.returns-then-cut-counters
 returns-then-cut-counters c =

@@ -11,12 +11,13 @@ use Rattle.lines.specs.Text.{text}
 use Rattle.iptables.specs.Words.{blank, colon, starts_with}
 use Rattle.iptables.specs.Listing.{other_chain}
 use Rattle.iptables_words.proofs.Pieces.{first_ends}
-use Rattle.iptables_lines.specs.Told.{line_told, read_told, plain_told}
+use Rattle.iptables_words.proofs.Same.{tested_as}
+use Rattle.iptables_lines.specs.Told.{line_told}
 use Rattle.iptables_lines.proofs.Names.{some_byte}
 use Rattle.iptables_lines.proofs.Lines.{default_line, chain_line, append_line, other_line}
 use borrow.Author.Rules.{rules}
 use Rattle.iptables_lines.proofs.words_read.Goals as goal
-use Rattle.iptables_lines.proofs.words_read.Goals.{After-cut-end, Else-same_bytes, Else-starts_with, Then-starts_with}
+use Rattle.iptables_lines.proofs.words_read.Goals.{After-cut-end, Else-eq, Else-starts_with, Then-starts_with}
 
 -- the line, and its first word
 abbrev line : After-cut-end → List ℕ
@@ -28,39 +29,38 @@ end c = c.cut-end.result
 abbrev first : After-cut-end → List ℕ
 first c = take (end c) (line c)
 
-not_default : (c : Else-same_bytes) → same (first (goal.at.Else-same_bytes c).After-cut-end) (text ":FORWARD") ≡ false
+not_default : (c : Else-eq) → same (first (goal.at.Else-eq c).After-cut-end) (text ":FORWARD") ≡ false
 unfolding text
-not_default c = sym c.same_bytes.ensures ∙ c.if-same_bytes.false
+not_default c = tested_as _ c.as_slice.ensures c.if-eq.ensures
 
 not_chain : (c : Else-starts_with) → starts_with colon (first (goal.at.Else-starts_with c).After-cut-end) ≡ false
 not_chain c = sym c.starts_with.ensures ∙ c.if-starts_with.false
 
-pub returns-then-same_bytes : goal.returns-then-same_bytes
+pub returns-then-eq : goal.returns-then-eq
 unfolding text
-returns-then-same_bytes c =
-    c.plain.ensures ∙ ap plain_told c.default_read.ensures
-    ∙ default_line (line (goal.at.returns-then-same_bytes c).After-cut-end) (end (goal.at.returns-then-same_bytes c).After-cut-end) c.cut-end.ensures (sym c.same_bytes.ensures ∙ c.if-same_bytes.true)
+returns-then-eq c =
+    c.default_read.ensures
+    ∙ default_line (line (goal.at.returns-then-eq c).After-cut-end) (end (goal.at.returns-then-eq c).After-cut-end) c.cut-end.ensures (tested_as _ c.as_slice.ensures c.if-eq.ensures)
 
 pub returns-then-starts_with : goal.returns-then-starts_with
 returns-then-starts_with c =
-    c.plain-then-starts_with.ensures
-    ∙ ap plain_told (c.other_chain.ensures ∙ ap (λ (name : List ℕ). line_told (other_chain name)) (part_to_end 1 (first (goal.at.returns-then-starts_with c).After-cut-end)))
-    ∙ chain_line (line (goal.at.returns-then-starts_with c).After-cut-end) (end (goal.at.returns-then-starts_with c).After-cut-end) c.cut-end.ensures (not_default (goal.at.returns-then-starts_with c).Else-same_bytes) (sym c.starts_with.ensures ∙ c.if-starts_with.true)
+    c.other_chain.ensures
+    ∙ ap (λ (name : List ℕ). line_told (other_chain name)) (part_to_end 1 (first (goal.at.returns-then-starts_with c).After-cut-end))
+    ∙ chain_line (line (goal.at.returns-then-starts_with c).After-cut-end) (end (goal.at.returns-then-starts_with c).After-cut-end) c.cut-end.ensures (not_default (goal.at.returns-then-starts_with c).Else-eq) (sym c.starts_with.ensures ∙ c.if-starts_with.true)
 
-pub returns-then-same_bytes-2 : goal.returns-then-same_bytes-2
+pub returns-then-eq-2 : goal.returns-then-eq-2
 unfolding text
-returns-then-same_bytes-2 c =
+returns-then-eq-2 c =
     c.append_read.ensures
-    ∙ ap read_told
-    (append_line (line (goal.at.returns-then-same_bytes-2 c).After-cut-end) (end (goal.at.returns-then-same_bytes-2 c).After-cut-end) c.cut-end.ensures (not_default (goal.at.returns-then-same_bytes-2 c).Else-same_bytes) (not_chain (goal.at.returns-then-same_bytes-2 c).Else-starts_with)
-    (sym c.same_bytes-2.ensures ∙ c.if-same_bytes-2.true))
+    ∙ ap line_told
+    (append_line (line (goal.at.returns-then-eq-2 c).After-cut-end) (end (goal.at.returns-then-eq-2 c).After-cut-end) c.cut-end.ensures (not_default (goal.at.returns-then-eq-2 c).Else-eq) (not_chain (goal.at.returns-then-eq-2 c).Else-starts_with)
+    (tested_as _ c.as_slice-2.ensures c.if-eq-2.ensures))
 
 pub returns : goal.returns
 unfolding text
 returns c =
-    c.plain-2.ensures
-    ∙ other_line (line (goal.at.returns c).After-cut-end) (end (goal.at.returns c).After-cut-end) c.cut-end.ensures (not_default (goal.at.returns c).Else-same_bytes) (not_chain (goal.at.returns c).Else-starts_with)
-    (sym c.same_bytes-2.ensures ∙ c.if-same_bytes-2.false)
+    other_line (line (goal.at.returns c).After-cut-end) (end (goal.at.returns c).After-cut-end) c.cut-end.ensures (not_default (goal.at.returns c).Else-eq) (not_chain (goal.at.returns c).Else-starts_with)
+    (tested_as _ c.as_slice-2.ensures c.if-eq-2.ensures)
 
 -- the first word has as many bytes as are asked for, and one where a colon stands
 pub slice_bounds-first-end : goal.slice_bounds-first-end

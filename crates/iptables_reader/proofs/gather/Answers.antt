@@ -1,20 +1,11 @@
 -- `gather` meets its contract. The loop's invariant: what is seen is what the lines before `start` have, and the listing is read as the lines from there
 -- on are, behind that; the line with this number goes from `start` to `end`. The measure is how many bytes are left. Assumes nothing.
-use Prim.Native.Nat.{ℕ}
 use native.Mathlib.Omega.{arith}
 use mathlib.Core.Path.{◌≡◌, sym, ◌∙◌}
-use mathlib.Core.List.{List}
 use lib.ListN.{length}
 use Rattle.iptables_reader.proofs.Gathering.{no_line_seen, line_inside, line_turned, line_seen, cut_short, all_seen}
 use Rattle.iptables_reader.proofs.gather.Goals as goal
-use Rattle.iptables_reader.proofs.gather.Goals.{After-stepped-step, At-loop-end}
-
--- the lists with one line more
-abbrev marks_after : After-stepped-step → List ℕ
-marks_after c = c.stepped-step.new.marks
-
-abbrev starts_after : After-stepped-step → List ℕ
-starts_after c = c.stepped-step.new.starts
+use Rattle.iptables_reader.proofs.gather.Goals.{At-loop-end}
 
 pub loop-end-init : goal.loop-end-init
 loop-end-init c =
@@ -24,17 +15,15 @@ loop-end-init c =
 -- one line more
 pub loop-end-preserved : goal.loop-end-preserved
 loop-end-preserved c =
-    line_seen c.loop-end.invariant c.loop-end-test.true (marks_after (goal.at.loop-end-preserved c).After-stepped-step) (starts_after (goal.at.loop-end-preserved c).After-stepped-step) c.stepped-step.result
-    c.stepped-step.ensures c.in_default.is c.cut-end-in-loop-end.ensures
+    line_seen c.loop-end.invariant c.loop-end-test.true c.stepped.new.marks c.stepped.new.starts c.in-Ok.next c.in-Ok.ensures
+    c.cut-end-in-loop-end.ensures
 
 pub loop-end-smaller : goal.loop-end-smaller
 loop-end-smaller c = omega (arith, c.loop-end-test.true, c.loop-end.invariant.ends)
 
 -- 57, 58
-pub returns-in-Bad : goal.returns-in-Bad
-returns-in-Bad c =
-    line_turned c.loop-end.invariant c.loop-end-test.true (marks_after (goal.at.returns-in-Bad c).After-stepped-step) (starts_after (goal.at.returns-in-Bad c).After-stepped-step) c.stepped-step.result
-    c.stepped-step.ensures c.in-Bad.why c.in-Bad.is
+pub returns-in-Err : goal.returns-in-Err
+returns-in-Err c = line_turned c.loop-end.invariant c.loop-end-test.true c.stepped.new.marks c.stepped.new.starts c.in-Err.why c.in-Err.ensures
 
 -- the listing ends inside the part
 pub returns-then-seen : goal.returns-then-seen
@@ -44,8 +33,8 @@ returns-then-seen c = cut_short c.loop-end.invariant c.loop-end-test.false c.if-
 pub returns : goal.returns
 returns c = all_seen c.loop-end.invariant c.loop-end-test.false c.if-seen.false
 
-pub stepped-step-requires : goal.stepped-step-requires
-stepped-step-requires c =
+pub stepped-requires : goal.stepped-requires
+stepped-requires c =
     let inv = c.loop-end.invariant in
     (inv.ends, line_inside inv, (inv.found, inv.is))
 

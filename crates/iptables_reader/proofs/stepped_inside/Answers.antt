@@ -1,15 +1,17 @@
 -- `stepped_inside` meets its contract: what is told of the line says how it is read, and each kind of line changes what is seen as what was found.
 -- Assumes nothing.
-use Prim.Native.Nat.{ℕ}
-use mathlib.Core.Path.{◌≡◌, sym, ◌∙◌, ap}
-use mathlib.Core.List.{List, []}
+use mathlib.Core.Path.{◌≡◌}
+use mathlib.Core.List.{[]}
+use Rattle.std.specs.Prelude.{Ok}
+use Rattle.std.proofs.lemmas.Result.{err_from_is_err_and}
 use Rattle.iptables.specs.Listing.{first_only, line_read}
-use Rattle.iptables_lines.specs.Told.{line_told, read_told}
+use Rattle.iptables_lines.specs.Told.{line_told}
 use Rattle.iptables_lines.specs.declared.Line.TheVariants.{Rule}
-use Rattle.iptables_lines.specs.declared.LineRead.{LineRead}
 use Rattle.iptables_reader.specs.Kept.{line_at, rule_at}
 use Rattle.iptables_reader.proofs.Stepping.{
-  line_taken,
+  told_of_line,
+  told_line,
+  told_record,
   told_recordable,
   stepped_open,
   stepped_close,
@@ -19,55 +21,56 @@ use Rattle.iptables_reader.proofs.Stepping.{
   stepped_rule,
 }
 use Rattle.iptables_reader.proofs.stepped_inside.Goals as goal
-use Rattle.iptables_reader.proofs.stepped_inside.Goals.{After-line_read-read, In-Rule}
-
-abbrev line : After-line_read-read → List ℕ
-line c = line_at c.args.start c.args.listing.now
-
-read_is : (c : After-line_read-read) → c.line_read-read.result ≡ read_told (line_read (line c))
-read_is c =
-    let a = c.args in
-    c.line_read-read.ensures
-    ∙ ap (λ (l : List ℕ). read_told (line_read l)) (line_taken a.listing.now a.start a.end c.requires.0)
-
-told : (c : After-line_read-read) → line_told (line_read (line c)) ≡ c.line_read-read.result.line
-unfolding read_told
-told c = sym (ap (λ (r : LineRead). r.line) (read_is c))
+use Rattle.iptables_reader.proofs.stepped_inside.Goals.{In-Rule}
 
 -- the line opens the part again, closes it, or is passed over
 pub returns-in-Opens : goal.returns-in-Opens
 returns-in-Opens c f so_far =
-    rw c.going_on.ensures (stepped_open so_far (line (goal.at.returns-in-Opens c).After-line_read-read) c.requires.2 (told (goal.at.returns-in-Opens c).After-line_read-read ∙ c.in-Opens.is))
+    let a = c.args in
+    rw c.going_on.ensures (stepped_open so_far (line_at a.start a.listing.now) c.requires.2
+    (told_line a.listing.now a.start a.end c.requires.0 c.in-Opens.is c.in_ok-line_read.ensures))
 
 pub returns-in-Closes : goal.returns-in-Closes
 returns-in-Closes c f so_far =
-    rw c.going_on-in-Closes.ensures (stepped_close so_far (line (goal.at.returns-in-Closes c).After-line_read-read) c.requires.2 (told (goal.at.returns-in-Closes c).After-line_read-read ∙ c.in-Closes.is))
+    let a = c.args in
+    rw c.going_on-in-Closes.ensures (stepped_close so_far (line_at a.start a.listing.now) c.requires.2
+    (told_line a.listing.now a.start a.end c.requires.0 c.in-Closes.is c.in_ok-line_read.ensures))
 
 pub returns-in-Passed : goal.returns-in-Passed
 returns-in-Passed c f so_far =
-    rw c.going_on-in-Passed.ensures (stepped_over so_far (line (goal.at.returns-in-Passed c).After-line_read-read) c.requires.2 (told (goal.at.returns-in-Passed c).After-line_read-read ∙ c.in-Passed.is))
+    let a = c.args in
+    rw c.going_on-in-Passed.ensures (stepped_over so_far (line_at a.start a.listing.now) c.requires.2
+    (told_line a.listing.now a.start a.end c.requires.0 c.in-Passed.is c.in_ok-line_read.ensures))
 
 -- one default more
 pub returns-in-Default : goal.returns-in-Default
 returns-in-Default c f so_far =
-    rw c.with_default.ensures
-    (stepped_default so_far (line (goal.at.returns-in-Default c).After-line_read-read) c.requires.2 c.in-Default.action (told (goal.at.returns-in-Default c).After-line_read-read ∙ c.in-Default.is))
+    let a = c.args in
+    rw c.with_default.ensures (stepped_default so_far (line_at a.start a.listing.now) c.requires.2 c.in-Default.action
+    (told_line a.listing.now a.start a.end c.requires.0 c.in-Default.is c.in_ok-line_read.ensures))
 
-is_rule : (c : In-Rule) → line_told (line_read (line (goal.at.In-Rule c).After-line_read-read)) ≡ Rule
-is_rule c = told (goal.at.In-Rule c).After-line_read-read ∙ c.in-Rule.is
+-- one rule more
+is_rule : (c : In-Rule) → let a = c.args in Ok (Rule c.in-Rule.bytes) ≡ line_told (line_read (line_at a.start a.listing.now))
+is_rule c = let a = c.args in told_line a.listing.now a.start a.end c.requires.0 c.in-Rule.is c.in_ok-line_read.ensures
 
 pub keep-requires : goal.keep-requires
-unfolding read_told rule_at
+unfolding rule_at
 keep-requires c =
     let (f, so_far) = c.requires.3 in
-    ((first_only [] f.rules, so_far.kept), ap (λ (r : LineRead). r.bytes) (read_is (goal.at.keep-requires c).After-line_read-read), told_recordable (line (goal.at.keep-requires c).After-line_read-read) (is_rule (goal.at.keep-requires c).In-Rule))
+    let is = is_rule (goal.at.keep-requires c).In-Rule in
+    let line = line_at c.args.start c.args.listing.now in
+    ((first_only [] f.rules, so_far.kept), told_record (line_read line) _ is, told_recordable line _ is)
 
 pub returns-in-Rule : goal.returns-in-Rule
 unfolding rule_at
 returns-in-Rule c f so_far =
-    stepped_rule so_far (line (goal.at.returns-in-Rule c).After-line_read-read) c.requires.2 (is_rule (goal.at.returns-in-Rule c).In-Rule) (c.keep.ensures (first_only [] f.rules) so_far.kept)
+    stepped_rule so_far (line_at c.args.start c.args.listing.now) c.requires.2 (is_rule (goal.at.returns-in-Rule c).In-Rule)
+    (c.keep.ensures (first_only [] f.rules) so_far.kept)
 
 -- the line is turned away
-pub returns-in-Turned : goal.returns-in-Turned
-returns-in-Turned c f so_far =
-    stepped_turned so_far (line (goal.at.returns-in-Turned c).After-line_read-read) c.requires.2 c.in-Turned.why (told (goal.at.returns-in-Turned c).After-line_read-read ∙ c.in-Turned.is)
+pub returns-in_err-line_read : goal.returns-in_err-line_read
+returns-in_err-line_read c f so_far =
+    let a = c.args in
+    let away = err_from_is_err_and c.from_residual.result c.from_residual.ensures.1 in
+    rw (away.1, away.2) (stepped_turned so_far (line_at a.start a.listing.now) c.requires.2 _
+    (told_of_line a.listing.now a.start a.end c.requires.0 c.in_err-line_read.ensures))

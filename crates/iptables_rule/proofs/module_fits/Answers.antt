@@ -8,10 +8,11 @@ use mathlib.Core.List.{List}
 use Rattle.policy.specs.Lists.{same}
 use Rattle.lines.specs.Text.{text}
 use Rattle.iptables.specs.Options.{Given, protocol_is, is_behind, module_fits}
+use Rattle.iptables_words.proofs.Same.{same_is}
 use Rattle.iptables_rule.specs.Found.{given_from}
 use Rattle.iptables_rule.proofs.Finding.{not_given, given_once, given_twice}
 use Rattle.iptables_rule.proofs.module_fits.Goals as goal
-use Rattle.iptables_rule.proofs.module_fits.Goals.{After-option-found, After-word_of-word, Joined-is_behind}
+use Rattle.iptables_rule.proofs.module_fits.Goals.{After-option-found, After-word_of-word}
 
 abbrev given : After-option-found → List Given
 given c = let args = c.args in given_from args.at args.line.now
@@ -34,14 +35,14 @@ unfolding module_fits text
 returns-then-found-eq2 c = rw ((given_twice c.option-found.ensures c.if-found-eq2.true).is, module_fits) refl
 
 -- then the word: it is `tcp`, or tested against `udp`
-pub returns-then-same_bytes : goal.returns-then-same_bytes
+pub returns-then-eq : goal.returns-then-eq
 unfolding text
-returns-then-same_bytes c = rw (fits (goal.at.returns-then-same_bytes c).After-word_of-word) (grind (arith, common_steps))
+returns-then-eq c = rw (fits (goal.at.returns-then-eq c).After-word_of-word) (grind (arith, common_steps, same_is))
 
-pub returns-else-same_bytes : goal.returns-else-same_bytes
+pub returns-else-eq : goal.returns-else-eq
 unfolding text
-returns-else-same_bytes c = rw (fits (goal.at.returns-else-same_bytes c).After-word_of-word) (grind (arith, common_steps))
+returns-else-eq c = rw (fits (goal.at.returns-else-eq c).After-word_of-word) (grind (arith, common_steps, same_is))
 
 pub returns-else-protocol_is : goal.returns-else-protocol_is
 unfolding text
-returns-else-protocol_is c = rw (fits (goal.at.returns-else-protocol_is c).After-word_of-word) (grind (arith, common_steps))
+returns-else-protocol_is c = rw (fits (goal.at.returns-else-protocol_is c).After-word_of-word) (grind (arith, common_steps, same_is))

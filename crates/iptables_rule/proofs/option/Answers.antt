@@ -4,6 +4,7 @@ use native.Mathlib.Omega.{arith}
 use mathlib.Core.List.{List}
 use lib.ListN.{length}
 use Rattle.deployment.specs.Bytes.{part}
+use Rattle.iptables_words.proofs.Same.{same_is}
 use Rattle.iptables_rule.proofs.Turns.{name_inside, word_inside}
 use Rattle.iptables_rule.proofs.Looking.{not_looked, place_fits, looked_to_end, looked_to_last, looked_further}
 use borrow.Author.Rules.{rules}
@@ -30,7 +31,7 @@ pub loop-end-preserved : goal.loop-end-preserved
 unfolding part
 loop-end-preserved c =
     let args = c.args in
-    rw (c.with_pair-found.ensures, c.same_bytes-is.ensures)
+    rw (c.with_pair-found.ensures, c.eq-is.ensures, same_is)
     (looked_further (line (goal.at.loop-end-preserved c).At-loop-end) args.at args.name.now c.loop-end.found c.loop-end.end c.loop-end.invariant c.cut-middle.result
     c.loop-end-test.true c.cut-middle.ensures c.cut-stop.result c.if-middle-line.false c.cut-stop.ensures)
 
@@ -50,14 +51,8 @@ returns c =
 pub overflow_add-middle : goal.overflow_add-middle
 overflow_add-middle c = let bounds = name_ends (goal.at.overflow_add-middle c).After-cut-middle in omega (arith, c.if-middle-line.false)
 
-pub slice_bounds-same_bytes-count : goal.slice_bounds-same_bytes-count
-slice_bounds-same_bytes-count c = (name_ends (goal.at.slice_bounds-same_bytes-count c).After-cut-middle).0
-
-pub slice_bounds-same_bytes-start : goal.slice_bounds-same_bytes-start
-slice_bounds-same_bytes-start c = let bounds = name_ends (goal.at.slice_bounds-same_bytes-start c).After-cut-middle in search rules
-
-pub slice_bounds-same_bytes-end : goal.slice_bounds-same_bytes-end
-slice_bounds-same_bytes-end c = let bounds = name_ends (goal.at.slice_bounds-same_bytes-end c).After-cut-middle in search rules
+pub slice_bounds-eq-end : goal.slice_bounds-eq-end
+slice_bounds-eq-end c = let bounds = name_ends (goal.at.slice_bounds-eq-end c).After-cut-middle in search rules
 
 pub overflow_add-middle-in-loop-end : goal.overflow_add-middle-in-loop-end
 overflow_add-middle-in-loop-end c =

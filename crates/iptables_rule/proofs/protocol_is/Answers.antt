@@ -4,6 +4,7 @@ use mathlib.Core.Bool.{not}
 use borrow.Author.Tests.{eq-eqb}
 use Rattle.lines.specs.Text.{text}
 use Rattle.iptables.specs.Options.{protocol_is}
+use Rattle.iptables_words.proofs.Same.{same_is}
 use Rattle.iptables_rule.proofs.Finding.{not_given, given_first}
 use Rattle.iptables_rule.proofs.protocol_is.Goals as goal
 
@@ -11,7 +12,7 @@ pub returns-then-found-ne0 : goal.returns-then-found-ne0
 unfolding protocol_is text
 returns-then-found-ne0 c =
     let found = c.option-found.ensures in
-    rw ((given_first found c.if-found-ne0.true).1, protocol_is, ← c.word_of.ensures) c.same_bytes.ensures
+    rw ((given_first found c.if-found-ne0.true).1, protocol_is, ← c.word_of.ensures) (c.eq.ensures ∙ same_is _ _)
 
 pub returns-else-found-ne0 : goal.returns-else-found-ne0
 unfolding protocol_is text

@@ -7,4 +7,4 @@ use Rattle.iptables_rule.proofs.record_of.Goals as goal
 
 pub returns : goal.returns
 unfolding rule_bytes bytes_of
-returns c = rw (c.with_ranges.ensures, c.action_byte.ensures, action_is_byte) refl
+returns c = rw (c.with_ranges.ensures, c.into.ensures, action_is_byte) refl

@@ -1,5 +1,5 @@
 -- `verdict_of` meets its contract. The loop's invariant: the state is sound, and what the whole script gets is what the commands from k on get
--- from the list and the verdict so far; the measure is what is left of the commands. Assumes nothing.
+-- from the list and the verdict so far. Assumes nothing.
 use Prim.Native.Nat.{◌<◌}
 use native.Mathlib.Omega.{arith}
 use mathlib.Core.Path.{◌≡◌, sym, ◌∙◌}
@@ -35,12 +35,11 @@ loop-k-init c =
     let initial = numbers_of c.args.initial.now in
     let target = numbers_of c.args.target.now in
     let (is, sound) = started (goal.at.loop-k-init c).After-start-state in (
-      omega arith,
       sound,
       rw (c.note_state-found.ensures, is) (verdict_rest initial target c.args.size (commands_of (script_of c.args.script.now))),
     )
 
--- the loop's test, in the words of the definition
+-- the loop's range, in the words of the definition
 inside : (c : In-loop-k)
     → c.loop-k.k < command_count c.args.script.now
 inside c = omega (arith, c.loop-k-test.true, c.commands-count.ensures)
@@ -49,18 +48,18 @@ pub returns-in_default : goal.returns-in_default
 returns-in_default c =
     absurd (never_wrong c.args.script.now c.requires.3 c.loop-k.k (inside (goal.at.returns-in_default c).In-loop-k) (sym c.in_default.is ∙ c.command_at.ensures))
 
-pub returns-in-Failed : goal.returns-in-Failed
-returns-in-Failed c =
+pub returns-in-Some-refusal : goal.returns-in-Some-refusal
+returns-in-Some-refusal c =
     let l = view c.loop-k.state.list in
     breaks_off (numbers_of c.args.initial.now) (numbers_of c.args.target.now) c.args.size c.args.script.now c.requires.3
-    c.loop-k.found c.loop-k.k l c.loop-k.invariant.2 _ (inside (goal.at.returns-in-Failed c).In-loop-k) (sym c.in-Is.is ∙ c.command_at.ensures) _
-    (step_failed c.args.size l c.loop-k.state.places.of c.loop-k.invariant.1 _ c.step-s.result c.step-s.ensures _ c.in-Failed.is)
+    c.loop-k.found c.loop-k.k l c.loop-k.invariant.1 _ (inside (goal.at.returns-in-Some-refusal c).In-loop-k) (sym c.in-Some.is ∙ c.command_at.ensures) _
+    (step_failed c.args.size l c.loop-k.state.places.of c.loop-k.invariant.0 _ c.step-s.result c.step-s.ensures _ c.in-Some-refusal.is)
 
 -- the state after a command that passes
 next_sound : (c : In_default-refusal)
     → Sound c.args.size (view c.step-s.result.state.list) c.step-s.result.state.places.of
 next_sound c =
-    step_sound c.args.size (view c.loop-k.state.list) c.loop-k.state.places.of c.loop-k.invariant.1 _ c.step-s.result c.step-s.ensures
+    step_sound c.args.size (view c.loop-k.state.list) c.loop-k.state.places.of c.loop-k.invariant.0 _ c.step-s.result c.step-s.ensures
     c.in_default-refusal.is
 
 pub note_state-found-requires-in-loop-k : goal.note_state-found-requires-in-loop-k
@@ -68,18 +67,14 @@ note_state-found-requires-in-loop-k c =
     judging c.args.size (numbers_of c.args.initial.now) (numbers_of c.args.target.now) c.step-s.result.state.places.of
     (view c.step-s.result.state.list) c.requires.1 c.requires.2 (next_sound (goal.at.note_state-found-requires-in-loop-k c).In_default-refusal)
 
-pub loop-k-smaller : goal.loop-k-smaller
-loop-k-smaller c = omega arith
-
 pub loop-k-preserved : goal.loop-k-preserved
 loop-k-preserved c =
     let l = view c.loop-k.state.list in (
-      omega arith,
       next_sound (goal.at.loop-k-preserved c).In_default-refusal,
       rw c.note_state-found-in-loop-k.ensures
           (passes_on (numbers_of c.args.initial.now) (numbers_of c.args.target.now) c.args.size c.args.script.now c.requires.3
-          c.loop-k.found c.loop-k.k l c.loop-k.invariant.2 _ (inside (goal.at.loop-k-preserved c).In-loop-k) (sym c.in-Is.is ∙ c.command_at.ensures) _
-          (step_passed c.args.size l c.loop-k.state.places.of c.loop-k.invariant.1 _ c.step-s.result c.step-s.ensures
+          c.loop-k.found c.loop-k.k l c.loop-k.invariant.1 _ (inside (goal.at.loop-k-preserved c).In-loop-k) (sym c.in-Some.is ∙ c.command_at.ensures) _
+          (step_passed c.args.size l c.loop-k.state.places.of c.loop-k.invariant.0 _ c.step-s.result c.step-s.ensures
           c.in_default-refusal.is)),
     )
 
@@ -92,7 +87,7 @@ ended c =
     let counted = c.commands-count.ensures in
     rw counted
     (comes_to (numbers_of c.args.initial.now) (numbers_of c.args.target.now) c.args.size c.args.script.now c.requires.3
-    c.loop-k.found c.loop-k.k (view c.loop-k.state.list) c.loop-k.invariant.2 (omega arith) (omega arith))
+    c.loop-k.found c.loop-k.k (view c.loop-k.state.list) c.loop-k.invariant.1 (omega arith) (omega arith))
 
 pub returns-then-not-ends_at : goal.returns-then-not-ends_at
 returns-then-not-ends_at c =

@@ -1,4 +1,3 @@
-use Prim.Native.Nat.{◌≤◌, ◌-◌}
 use mathlib.Core.Path.{◌≡◌}
 use lib.ListN.{drop}
 use Rattle.policy.specs.Judge.{verdict}
@@ -11,10 +10,6 @@ use Rattle.judge.proofs.verdict_of.Given as goal
 
 abbrev pub invariant-loop-k : goal.invariant-loop-k
 invariant-loop-k l =
-    (l.k ≤ l.count)
-    × Sound l.size (view l.state.list) l.state.places.of
+    Sound l.size (view l.state.list) l.state.places.of
     × (verdict l.size (numbers_of l.initial') (numbers_of l.target) (commands_of (script_of l.script))
     ≡ rest (numbers_of l.initial') (numbers_of l.target) l.size l.found l.k (view l.state.list) (drop l.k (commands_of (script_of l.script))))
-
-abbrev pub decreases-loop-k : goal.decreases-loop-k
-decreases-loop-k l = l.count - l.k

@@ -1,15 +1,7 @@
--- `judge_text` meets its contract: without room nothing is put, with room the whole text is. Assumes nothing.
-use native.Mathlib.Omega.{arith}
+-- `judge_text` meets its contract: what is put is the whole text. Assumes nothing.
 use Rattle.listing.specs.Text.{judge_printed}
-use Rattle.lines.proofs.HandedOver.{no_room, room}
+use Rattle.std.proofs.Common.{rules}
 use Rattle.listing.proofs.judge_text.Goals as goal
 
-pub returns-then-place-needed : goal.returns-then-place-needed
-returns-then-place-needed c =
-    let args = c.args in
-    no_room (judge_printed args.file.now) args.place.now _ c.judged_needed-needed.ensures (omega arith)
-
 pub returns : goal.returns
-returns c =
-    let args = c.args in
-    room (judge_printed args.file.now) args.place.now _ _ _ c.judged_needed-needed.ensures (omega arith) c.put_judged.ensures
+returns c = c.whole_text.ensures (judge_printed c.args.file.now) (λ before after next file called. search rules)

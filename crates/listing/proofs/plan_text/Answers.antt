@@ -1,15 +1,7 @@
--- `plan_text` meets its contract: without room nothing is put, with room the whole text is. Assumes nothing.
-use native.Mathlib.Omega.{arith}
+-- `plan_text` meets its contract: what is put is the whole text. Assumes nothing.
 use Rattle.listing.specs.Text.{plan_printed}
-use Rattle.lines.proofs.HandedOver.{no_room, room}
+use Rattle.std.proofs.Common.{rules}
 use Rattle.listing.proofs.plan_text.Goals as goal
 
-pub returns-then-place-needed : goal.returns-then-place-needed
-returns-then-place-needed c =
-    let args = c.args in
-    no_room (plan_printed args.file.now) args.place.now _ c.plans_needed-needed.ensures (omega arith)
-
 pub returns : goal.returns
-returns c =
-    let args = c.args in
-    room (plan_printed args.file.now) args.place.now _ _ _ c.plans_needed-needed.ensures (omega arith) c.put_plans.ensures
+returns c = c.whole_text.ensures (plan_printed c.args.file.now) (λ before after next file called. search rules)

@@ -17,8 +17,8 @@ digit c = sym c.is_digit.ensures ∙ c.if-not-is_digit.false
 pub returns : goal.returns
 returns c =
     let args = c.args in
-    digits_behind args.text.now args.at c.if-text-at.false c.digits_from-digits.result.value c.digits_from-digits.result.end (digit (goal.at.returns c).Else-not-is_digit)
-    c.if-first-eq-ZERO.false c.digits_from-digits.ensures
+    digits_behind args.text.now args.at c.if-text-at.false c.digits_from.result (digit (goal.at.returns c).Else-not-is_digit)
+    c.if-first-eq-ZERO.false c.digits_from.ensures
 
 pub returns-then-first-eq-ZERO : goal.returns-then-first-eq-ZERO
 returns-then-first-eq-ZERO c =
@@ -39,6 +39,6 @@ overflow_sub-first c = (is_digit_lem _ (digit (goal.at.overflow_sub-first c).Els
 pub overflow_cast-first : goal.overflow_cast-first
 overflow_cast-first c = let bounds = is_digit_lem _ (digit (goal.at.overflow_cast-first c).Else-not-is_digit) in search rules
 
-pub digits_from-digits-requires : goal.digits_from-digits-requires
-digits_from-digits-requires c =
-    let bounds = is_digit_lem _ (digit (goal.at.digits_from-digits-requires c).Else-not-is_digit) in (search rules, omega (arith, bounds.1))
+pub digits_from-requires : goal.digits_from-requires
+digits_from-requires c =
+    let bounds = is_digit_lem _ (digit (goal.at.digits_from-requires c).Else-not-is_digit) in (search rules, omega (arith, bounds.1))

@@ -7,10 +7,6 @@ use Rattle.numerals.proofs.with_digit.Goals as goal
 pub overflow_sub-more : goal.overflow_sub-more
 overflow_sub-more c = (is_digit_lem c.args.digit c.requires.1).0
 
-pub returns-then-more-gt-MOST_HELD : goal.returns-then-more-gt-MOST_HELD
-unfolding held
-returns-then-more-gt-MOST_HELD c = omega arith
-
 pub returns : goal.returns
 unfolding held
-returns c = omega arith
+returns c = omega (arith, c.min.ensures)

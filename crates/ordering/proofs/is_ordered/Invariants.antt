@@ -1,6 +1,5 @@
-use Prim.Native.Nat.{◌≤◌, ◌-◌}
 use mathlib.Core.Path.{◌≡◌}
-use lib.ListN.{length, drop}
+use lib.ListN.{drop}
 use Rattle.policy.specs.Lists.{all}
 use Rattle.policy.specs.Judge.{supported, ordered}
 use Rattle.deployment.specs.Values.{numbers_of}
@@ -9,10 +8,6 @@ use Rattle.ordering.proofs.is_ordered.Given as goal
 
 abbrev pub invariant-loop-k : goal.invariant-loop-k
 invariant-loop-k l =
-    (l.k ≤ length l.list)
-    × (l.a ≡ front (stands l.places l.k) (numbers_of l.initial'))
+    (l.a ≡ front (stands l.places l.k) (numbers_of l.initial'))
     × (l.b ≡ front (stands l.places l.k) (numbers_of l.target))
     × (ordered (numbers_of l.initial') (numbers_of l.target) l.list ≡ all (supported (numbers_of l.initial') (numbers_of l.target) l.list) (drop l.k l.list))
-
-abbrev pub decreases-loop-k : goal.decreases-loop-k
-decreases-loop-k l = length l.list - l.k

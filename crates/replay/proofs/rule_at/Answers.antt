@@ -14,13 +14,13 @@ use Rattle.replay.proofs.rule_at.Goals as goal
 shown : (list : Running) (n at : ℕ) → length list.rules ≡ 1024 → n ≡ length (view list) → at < n → at < 1024
 shown list n at slots counted inside = omega (arith, view_fits list)
 
-pub offset_bounds-rules-at : goal.offset_bounds-rules-at
-offset_bounds-rules-at c =
+pub offset_bounds-list-at : goal.offset_bounds-list-at
+offset_bounds-list-at c =
     let inside = shown c.args.list _ _ c.well_formed.0.1.1.0.1.0.1 c.count.ensures c.if-at-count.true in
     omega (arith, inside)
 
-pub bounds-rules-at : goal.bounds-rules-at
-bounds-rules-at c = shown c.args.list _ _ c.well_formed.0.1.1.0.1.0.1 c.count.ensures c.if-at-count.true
+pub bounds-list-at : goal.bounds-list-at
+bounds-list-at c = shown c.args.list _ _ c.well_formed.0.1.1.0.1.0.1 c.count.ensures c.if-at-count.true
 
 pub returns-then-at-count : goal.returns-then-at-count
 unfolding rule_at

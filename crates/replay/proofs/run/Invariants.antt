@@ -1,4 +1,3 @@
-use Prim.Native.Nat.{◌-◌}
 use mathlib.Core.Path.{◌≡◌}
 use lib.ListN.{drop}
 use Rattle.policy.specs.Replay.{replay_from, replay}
@@ -12,6 +11,3 @@ abbrev pub invariant-loop-k : goal.invariant-loop-k
 invariant-loop-k l =
     Sound l.size (view l.state.list) l.state.places.of
     × (replay l.size (view l.initial.state.list) (commands_of (script_of l.script)) ≡ replay_from l.size l.k (view l.state.list) (drop l.k (commands_of (script_of l.script))))
-
-abbrev pub decreases-loop-k : goal.decreases-loop-k
-decreases-loop-k l = l.count - l.k

@@ -3,10 +3,10 @@ use Rattle.running.specs.Running.{shown}
 use Rattle.replay.specs.Stepping.{left_by, settled, places_after}
 use Rattle.replay.proofs.settle.Goals as goal
 
-pub returns-in-Nothing : goal.returns-in-Nothing
+pub returns-in-None : goal.returns-in-None
 unfolding left_by settled shown places_after
-returns-in-Nothing c = rw (c.in-Nothing.is, c.numbered-anew.ensures)
+returns-in-None c = rw (c.in-None.is, c.numbered-anew.ensures)
 
-pub returns-in_default : goal.returns-in_default
+pub returns-in-Some : goal.returns-in-Some
 unfolding left_by settled shown places_after
-returns-in_default c = rw c.in_default.is
+returns-in-Some c = rw c.in-Some.is

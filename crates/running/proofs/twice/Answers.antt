@@ -1,50 +1,44 @@
--- `twice` is the test of the definition, turned. The loop's invariant: the rules from index k on differ, and `seen` marks exactly those;
--- the measure is k. Assumes nothing.
-use Prim.Native.Nat.{◌<◌, ◌-◌}
-use native.Mathlib.Omega.{arith}
-use borrow.Author.Rules.{rules}
-use mathlib.Core.Path.{◌≡◌, sym, ap}
+-- `twice` is the test of the definition, turned. The loop's invariant: the rules behind those that are left differ, and `seen` marks exactly them.
+-- Assumes nothing.
+use Prim.Native.Nat.{◌<◌}
+use mathlib.Core.Path.{sym, ap}
 use mathlib.Core.Bool.{not}
-use mathlib.Core.List.{◌∷◌}
-use borrow.Author.Tests.{ltb-true}
-use lib.Dec.{ltb}
-use lib.ListN.{take, drop, get_or, length-take}
-use Rattle.running.proofs.Names.{before_cons, all_at, seen_none, seen_one, seen_twice}
+use mathlib.Core.List.{[], ◌∷◌, ◌++◌}
+use lib.ListN.{take}
+use Rattle.policy.proofs.Lists.{length_nil}
+use Rattle.running.proofs.Names.{Seen, seen_none, seen_all, seen_fits, seen_one, seen_twice}
 use Rattle.running.proofs.twice.Goals as goal
-use Rattle.running.proofs.twice.Goals.{In-loop-k}
+use Rattle.running.proofs.twice.Goals.{In-Some}
 
-pub loop-k-init : goal.loop-k-init
-loop-k-init c =
-    (search rules, search rules, seen_none c.args.len (take c.args.len c.args.rules) (omega (arith, length-take c.args.len c.args.rules)))
+pub loop-r-init : goal.loop-r-init
+loop-r-init c =
+    rw (c.into_iter-r-iterator.ensures.into_iter_gives, c.rev-r-items.ensures.source, c.iter.ensures.rest)
+    (seen_none (take c.args.len c.args.rules))
 
--- the rule is below 1,024, as all are
-listed : (c : In-loop-k) → get_or c.args.rules (c.loop-k.k - 1) 0 < 1024
-listed c =
-    ltb-true _ 1024 (all_at (λ r. ltb r 1024) (c.loop-k.k - 1) c.args.len c.args.rules (omega (arith, c.loop-k-test.true)) (search rules) c.requires.1)
+-- r is the last of those that are left
+before : (c : In-Some) → Seen c.loop-r.seen (c.next.new.self.iter.rest.now ++ (c.in-Some.r.now ∷ [])) (take c.args.len c.args.rules)
+before c = rw c.in-Some.ensures.steps at c.loop-r.invariant
 
--- it stands before those that are marked
-first : (c : In-loop-k) →
-    drop (c.loop-k.k - 1) (take c.args.len c.args.rules)
-    ≡ get_or c.args.rules (c.loop-k.k - 1) 0 ∷ drop c.loop-k.k (take c.args.len c.args.rules)
-first c =
-    before_cons c.loop-k.k c.args.len c.args.rules c.loop-k-test.true c.loop-k.invariant.0 (search rules)
+fits : (c : In-Some) → c.in-Some.r.now < 1024
+fits c = seen_fits _ _ _ _ (before c) c.requires.1
 
 pub bounds-seen-at : goal.bounds-seen-at
-bounds-seen-at c = listed c
+bounds-seen-at c = fits (goal.at.bounds-seen-at c).In-Some
 
 pub returns-then-seen-at : goal.returns-then-seen-at
 returns-then-seen-at c =
-    sym (ap not (seen_twice c.loop-k.seen (c.loop-k.k - 1) _ _ _ (listed (goal.at.returns-then-seen-at c).In-loop-k) c.loop-k.invariant.2 (first (goal.at.returns-then-seen-at c).In-loop-k) c.if-seen-at.true))
+    let p = (goal.at.returns-then-seen-at c).In-Some in
+    sym (ap not (seen_twice _ _ _ _ (before p) (fits p) c.if-seen-at.true))
 
-pub bounds-seen-at-in-loop-k : goal.bounds-seen-at-in-loop-k
-bounds-seen-at-in-loop-k c = listed (goal.at.bounds-seen-at-in-loop-k c).In-loop-k
+pub bounds-seen-at-in-loop-r : goal.bounds-seen-at-in-loop-r
+bounds-seen-at-in-loop-r c = fits (goal.at.bounds-seen-at-in-loop-r c).In-Some
 
-pub loop-k-preserved : goal.loop-k-preserved
-loop-k-preserved c =
-    let rest = seen_one c.loop-k.seen _ _ c.loop-k.invariant.1 (listed (goal.at.loop-k-preserved c).In-loop-k) c.loop-k.invariant.2 c.if-seen-at.false in
-    (omega arith, search rules, rw (first (goal.at.loop-k-preserved c).In-loop-k) rest)
+pub loop-r-preserved : goal.loop-r-preserved
+loop-r-preserved c =
+    let p = (goal.at.loop-r-preserved c).In-Some in
+    seen_one _ _ _ _ (before p) (fits p) c.if-seen-at.false
 
 pub returns : goal.returns
 returns c =
-    let all : c.loop-k.k ≡ 0 = omega arith in
-    sym (ap not (rw all at c.loop-k.invariant.2.apart))
+    let none = length_nil c.loop-r.r-iterator.iter.rest.now c.in-None.ensures.steps.0 in
+    sym (ap not (seen_all _ _ (rw none at c.loop-r.invariant)))

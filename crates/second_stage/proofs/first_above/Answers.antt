@@ -1,78 +1,40 @@
--- `first_above` finds the first rule above a place behind those before it. The loop's invariant: from index `at` on as many stand before it as are left of those that stand
--- before it from the start on; the measure is what is left of the list's length. Assumes nothing.
-use Prim.Native.Nat.{ℕ, ◌<◌}
+-- `first_above` meets its contract: so many rules come before the one that is found, or all of them do. Assumes nothing.
+use Prim.Native.Nat.{◌+◌, ◌-◌}
 use native.Mathlib.Omega.{arith}
-use mathlib.Core.Path.{◌≡◌, refl, ◌∙◌, ap}
-use borrow.Author.Tests.{lt-ltb, le-ltb}
+use borrow.Author.Rules.{rules}
+use mathlib.Core.Path.{◌≡◌, ap}
 use lib.Dec.{ltb}
-use lib.ListN.{length, get_or}
+use lib.ListN.{take, drop, length-drop, get_or}
+use Rattle.std.proofs.Common.{tests}
+use Rattle.std.proofs.lemmas.Iterator.{YieldsList-from_slice}
+use Rattle.std.proofs.lemmas.Iterator.Search.{position_from_yields_List}
 use Rattle.running.specs.Running.{view}
-use Rattle.running.proofs.Edits.{view_count, view_fits}
-use Rattle.first_stage.proofs.Looking.{rule_shown, Seeking, seek_past, seek_here, seek_ends}
+use Rattle.running.proofs.Edits.{view_fits}
+use Rattle.first_stage.proofs.Looking.{rest_shown, Found, found_some, found_none}
 use Rattle.second_stage.proofs.first_above.Goals as goal
-use Rattle.second_stage.proofs.first_above.Goals.{After-place_of, At-loop-at, In-loop-at}
+use Rattle.second_stage.proofs.first_above.Goals.{After-position}
 
-pub loop-at-init : goal.loop-at-init
-loop-at-init c = (omega (arith, c.count-len.ensures), refl)
+-- what is looked through, and what is found there
+shown : (c : After-position) → take (c.count-len.result - c.args.from) (drop c.args.from c.args.list.rules) ≡ drop c.args.from (view c.args.list)
+shown c = rest_shown c.args.list c.args.from c.count-len.result c.count-len.ensures (omega (arith, c.count-len.ensures, c.requires))
 
--- an index of the list is a slot of its array
-below : (c : In-loop-at) → c.loop-at.at < 1024
-below c =
-    omega (
-      arith,
-      c.loop-at-test.true,
-      c.count-len.ensures,
-      view_fits c.args.list,
-      c.well_formed.0.1.1.0.1.0.1,
-    )
+found : (c : After-position) → c.position.result ≡ Found (λ x. ltb c.args.place (get_or c.args.to.now x 0)) (drop c.args.from (view c.args.list))
+found c =
+    rw (← shown c)
+    (position_from_yields_List (λ x. ltb c.args.place (get_or c.args.to.now x 0)) _ _ _ c.position.ensures.ran
+    (YieldsList-from_slice (take (c.count-len.result - c.args.from) (drop c.args.from c.args.list.rules)) (cc)) (λ x b q k. search (rules, tests)))
 
--- the invariant of the list that is shown
-sought : (c : At-loop-at)
-    → let args = c.args in
-    Seeking (λ x. ltb args.place (get_or args.to.now x 0)) (view args.list) args.from c.loop-at.at
-sought c =
-    rw (view_count c.args.list c.count-len.result c.count-len.ensures) at c.loop-at.invariant.1
+pub offset_bounds-list-from : goal.offset_bounds-list-from
+offset_bounds-list-from c = omega (arith, c.requires, view_fits c.args.list, c.well_formed.0.1.1.0.1.0.1)
 
-shown : (c : In-loop-at) → c.loop-at.at < length (view c.args.list)
-shown c = omega (arith, c.loop-at-test.true, c.count-len.ensures)
+pub slice_bounds-iter-end : goal.slice_bounds-iter-end
+slice_bounds-iter-end c = omega (arith, c.requires, c.count-len.ensures, view_fits c.args.list, c.well_formed.0.1.1.0.1.0.1)
 
--- the place that is looked up is that of the rule at that index of the list that is shown
-looked_up : (c : After-place_of)
-    → let args = c.args in
-    c.place_of.result ≡ get_or args.to.now (get_or (view args.list) c.loop-at.at 0) 0
-looked_up c =
-    let args = c.args in
-    c.place_of.ensures ∙ ap (λ (r : ℕ). get_or args.to.now r 0) (rule_shown args.list c.loop-at.at (shown (goal.at.After-place_of c).In-loop-at))
+pub returns-in-Some : goal.returns-in-Some
+returns-in-Some c =
+    ap (λ n. c.args.from + n) (found_some (λ x. ltb c.args.place (get_or c.args.to.now x 0)) _ _ c.in-Some.before (found (goal.at.returns-in-Some c).After-position) c.in-Some.is)
 
-pub returns-then-place-place_of : goal.returns-then-place-place_of
-returns-then-place-place_of c =
-    let args = c.args in
-    seek_here (λ x. ltb args.place (get_or args.to.now x 0)) (view args.list) args.from c.loop-at.at (sought (goal.at.returns-then-place-place_of c).At-loop-at) (shown (goal.at.returns-then-place-place_of c).In-loop-at)
-    (lt-ltb _ _ (rw (looked_up (goal.at.returns-then-place-place_of c).After-place_of) at c.if-place-place_of.true))
-
-pub offset_bounds-rules-at : goal.offset_bounds-rules-at
-offset_bounds-rules-at c = omega (arith, c.loop-at-test.true, c.count-len.ensures, view_fits c.args.list, c.well_formed.0.1.1.0.1.0.1)
-
-pub bounds-rules-at : goal.bounds-rules-at
-bounds-rules-at c = omega (arith, c.loop-at-test.true, c.count-len.ensures, view_fits c.args.list, c.well_formed.0.1.1.0.1.0.1)
-
-pub overflow_add-at : goal.overflow_add-at
-overflow_add-at c = record { fits = omega (arith, below (goal.at.overflow_add-at c).In-loop-at) }
-
-pub loop-at-smaller : goal.loop-at-smaller
-loop-at-smaller c = omega arith
-
-pub loop-at-preserved : goal.loop-at-preserved
-loop-at-preserved c =
-    let args = c.args in (
-      omega arith,
-      rw (view_count args.list c.count-len.result c.count-len.ensures)
-          (seek_past (λ x. ltb args.place (get_or args.to.now x 0)) (view args.list) args.from c.loop-at.at (sought (goal.at.loop-at-preserved c).At-loop-at) (shown (goal.at.loop-at-preserved c).In-loop-at)
-          (le-ltb _ _ (rw (looked_up (goal.at.loop-at-preserved c).After-place_of) at c.if-place-place_of.false))),
-    )
-
-pub returns : goal.returns
-returns c =
-    let args = c.args in
-    seek_ends (λ x. ltb args.place (get_or args.to.now x 0)) (view args.list) args.from c.loop-at.at (sought (goal.at.returns c).At-loop-at)
-    (omega (arith, c.loop-at-test.false, c.count-len.ensures))
+pub returns-in-None : goal.returns-in-None
+returns-in-None c =
+    let all = found_none (λ x. ltb c.args.place (get_or c.args.to.now x 0)) _ _ (found (goal.at.returns-in-None c).After-position) c.in-None.is in
+    omega (arith, all, c.count-len.ensures, c.requires, length-drop c.args.from (view c.args.list))

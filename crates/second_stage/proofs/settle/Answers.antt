@@ -26,7 +26,7 @@ returns-then-place-eq0 c =
     let pre = c.requires in
     λ target u done policy says is at.
     did_delete target a.to.now policy says a.list c.del_place-edited.result.list a.r a.i a.sent a.field.now c.put.new.field
-    pre.4 pre.3 pre.2 u done is at (sym c.place_of-place.ensures ∙ c.if-place-eq0.true)
+    c.told-field pre.3 pre.2 u done is at (sym c.place_of-place.ensures ∙ c.if-place-eq0.true)
     (del_gives c.del_place-edited.result (view a.list) a.i c.del_place-edited.ensures pre.0 pre.1) c.put.ensures
 
 pub overflow_cast-i-2 : goal.overflow_cast-i-2
@@ -49,7 +49,7 @@ returns c =
     let pre = c.requires in
     λ target u done policy says is at.
     did_lower target a.to.now policy says a.list c.mov-edited.result.list a.r a.i a.sent a.field.now c.put-2.new.field
-    pre.4 pre.3 pre.2 u done is at c.place_of-place.result c.first_above-j.result c.place_of-place.ensures c.if-place-eq0.false
+    c.told-field pre.3 pre.2 u done is at c.place_of-place.result c.first_above-j.result c.place_of-place.ensures c.if-place-eq0.false
     c.first_above-j.ensures
     (mov_gives c.mov-edited.result (view a.list) a.i c.first_above-j.result c.mov-edited.ensures pre.0 pre.1
     (omega (arith, c.first_above-j.ensures, pre.0)) (found_inside (goal.at.returns c).After-first_above-j))

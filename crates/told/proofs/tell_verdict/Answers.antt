@@ -11,11 +11,11 @@ returns-in-Broken c = tells_of verdict_told (sym c.in-Broken.is) c.tell_fault.en
 
 pub returns-in-Elsewhere : goal.returns-in-Elsewhere
 unfolding verdict_numbers
-returns-in-Elsewhere c = tells_of verdict_told (sym c.in-Elsewhere.is) c.tell_one.ensures
+returns-in-Elsewhere c = tells_of verdict_told (sym c.in-Elsewhere.is) c.tell.ensures
 
 pub returns-in-Unordered : goal.returns-in-Unordered
 unfolding verdict_numbers
-returns-in-Unordered c = tells_of verdict_told (sym c.in-Unordered.is) c.tell_two.ensures
+returns-in-Unordered c = tells_of verdict_told (sym c.in-Unordered.is) c.tell-in-Unordered.ensures
 
 pub returns-in-NotFull : goal.returns-in-NotFull
 unfolding verdict_numbers

@@ -1,32 +1,28 @@
 -- `all_commands` meets its contract: the commands from the k-th on say what all of them say. Assumes nothing.
 use native.Mathlib.Omega.{arith}
-use mathlib.Core.Path.{refl, sym, ◌∙◌}
-use Rattle.deployment.specs.Commands.{command_at}
-use Rattle.values.proofs.Scripts.{decoded_is, decoded_wrong, read_further, read_wrong, read_all}
+use mathlib.Core.Path.{◌≡◌, refl, sym, ◌∙◌, ap}
+use Rattle.std.specs.Prelude.{is_some, not}
+use Rattle.deployment.specs.Commands.{command_at, decoded}
+use Rattle.values.proofs.Scripts.{read_further, read_wrong, read_all}
 use Rattle.values.proofs.all_commands.Goals as goal
+use Rattle.values.proofs.all_commands.Goals.{After-is_none}
+
+-- whether the k-th command is there
+told : (c : After-is_none) → is_some (decoded (command_at c.args.value.now c.loop-k.k)) ≡ not c.is_none.result
+told c = ap is_some (sym c.command_at.ensures) ∙ c.is_none.ensures
 
 pub loop-k-init : goal.loop-k-init
-loop-k-init c = (c.commands-count.ensures, omega arith, refl)
+loop-k-init c = refl
 
-pub returns-in-Wrong : goal.returns-in-Wrong
-returns-in-Wrong c =
-    let value = c.args.value.now in
-    let wrong = decoded_wrong (command_at value c.loop-k.k) (sym c.in-Wrong.is ∙ c.command_at-d.ensures) in
-    sym (c.loop-k.invariant.2 ∙ read_wrong value c.loop-k.k (omega arith) wrong)
-
-pub overflow_add-k : goal.overflow_add-k
-overflow_add-k c = omega arith
-
-pub loop-k-smaller : goal.loop-k-smaller
-loop-k-smaller c = omega arith
+pub returns-then-is_none : goal.returns-then-is_none
+returns-then-is_none c =
+    let wrong = told (goal.at.returns-then-is_none c).After-is_none ∙ ap not c.if-is_none.true in
+    sym (c.loop-k.invariant ∙ read_wrong c.args.value.now c.loop-k.k (omega arith) wrong)
 
 pub loop-k-preserved : goal.loop-k-preserved
 loop-k-preserved c =
-    let value = c.args.value.now in
-    let is = decoded_is (command_at value c.loop-k.k) _ (sym c.in-Is.is ∙ c.command_at-d.ensures) in
-    (c.loop-k.invariant.0, omega arith, c.loop-k.invariant.2 ∙ read_further value c.loop-k.k (omega arith) _ is)
+    let right = told (goal.at.loop-k-preserved c).After-is_none ∙ ap not c.if-is_none.false in
+    c.loop-k.invariant ∙ read_further c.args.value.now c.loop-k.k (omega arith) right
 
 pub returns : goal.returns
-returns c =
-    let value = c.args.value.now in
-    sym (c.loop-k.invariant.2 ∙ read_all value c.loop-k.k (omega arith))
+returns c = sym (c.loop-k.invariant ∙ read_all c.args.value.now c.loop-k.k (omega arith))

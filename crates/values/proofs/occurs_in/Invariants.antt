@@ -1,14 +1,10 @@
-use Prim.Native.Nat.{◌≤◌, ◌-◌}
+use Prim.Native.Nat.{◌≤◌}
 use mathlib.Core.Path.{◌≡◌}
-use lib.ListN.{length, drop}
+use lib.ListN.{drop}
 use Rattle.policy.specs.Lists.{occurs}
 use Rattle.deployment.specs.Values.{numbers_of}
 use Rattle.values.proofs.occurs_in.Given as goal
 
-abbrev pub invariant-loop-i : goal.invariant-loop-i
-invariant-loop-i l =
-    (l.count ≡ length (numbers_of l.keep)) × (l.top ≡ length (numbers_of l.list)) × (l.i ≤ l.count) × (l.j ≤ l.top)
-    × (occurs (numbers_of l.keep) (numbers_of l.list) ≡ occurs (drop l.i (numbers_of l.keep)) (drop l.j (numbers_of l.list)))
-
-abbrev pub decreases-loop-i : goal.decreases-loop-i
-decreases-loop-i l = l.top - l.j
+abbrev pub invariant-loop-k : goal.invariant-loop-k
+invariant-loop-k l =
+    (l.found ≤ l.count) × (occurs (numbers_of l.keep) (numbers_of l.list) ≡ occurs (drop l.found (numbers_of l.keep)) (drop l.k (numbers_of l.list)))

@@ -1,57 +1,67 @@
--- `writer::put_rules` meets its contract. The loop's invariant: the fields of the first k rules are stored from the start on, thirty
--- bytes each. The measure is how many rules are left. Assumes nothing.
-use Prim.Native.Nat.{◌/◌, zero-le}
+-- `writer::put_rules` meets its contract. The loop's invariant: what is stored from the start on, and the fields of the rules that are
+-- left behind it, are the fields of all rules. Assumes nothing.
+use Prim.Native.Nat.{◌/◌}
 use native.Mathlib.Omega.{arith}
-use mathlib.Core.Path.{◌≡◌, refl}
-use lib.ListN.{length}
-use Rattle.deployment.specs.Bytes.{chunks, joined}
+use mathlib.Core.Path.{◌≡◌, refl, sym, ◌∙◌, ap}
+use mathlib.Core.List.{[], ◌++◌, append_assoc, append-nil}
+use lib.ListN.{length, length-append}
+use Rattle.deployment.specs.File.{rule_tag, field_bytes}
+use Rattle.deployment.proofs.Storing.{stored_more}
 use Rattle.writer.specs.Answers.{rules_bytes}
-use Rattle.deployment.proofs.Storing.{stored_long, stored_more}
-use Rattle.writer.proofs.Pieces.{length_rules, length_rule_at, rules_more}
+use Rattle.writer.proofs.Pieces.{rules_next, no_rules, length_all_rules}
 use Rattle.writer.proofs.put_rules.Goals as goal
+use Rattle.writer.proofs.put_rules.Goals.{In-Some}
 
-pub loop-k-init : goal.loop-k-init
-unfolding rules_bytes chunks joined
-loop-k-init c = (zero-le, record { place = refl; end = omega arith })
+pub loop-rule-init : goal.loop-rule-init
+loop-rule-init c =
+    rw (c.into_iter-rule-iterator.ensures.into_iter_gives, c.chunks_exact-rule-items.ensures.size, c.chunks_exact-rule-items.ensures.rest)
+    (refl, ([], record { place = refl; end = omega arith }, refl))
 
-pub overflow_mul-start : goal.overflow_mul-start
-overflow_mul-start c = omega arith
+-- a turn: the first rule that is left, its field, and what is left behind it
+next_rule : (c : In-Some) → length c.in-Some.rule.now ≡ 27
+next_rule c = c.in-Some.ensures.steps.1.1 ∙ c.loop-rule.invariant.0
 
-pub overflow_add-start : goal.overflow_add-start
-overflow_add-start c = omega arith
-
-pub slice_bounds-put_field-count : goal.slice_bounds-put_field-count
-slice_bounds-put_field-count c = omega arith
-
-pub slice_bounds-put_field-start : goal.slice_bounds-put_field-start
-slice_bounds-put_field-start c = omega arith
-
-pub slice_bounds-put_field-end : goal.slice_bounds-put_field-end
-slice_bounds-put_field-end c = omega arith
+next_field : (c : In-Some)
+    → let rest = c.loop-rule.rule-iterator.rest.now in
+    let others = c.next.new.self.rest.now in
+    rules_bytes (length rest / 27) rest ≡ field_bytes rule_tag c.in-Some.rule.now ++ rules_bytes (length others / 27) others
+next_field c = rw c.in-Some.ensures.steps.1.0 (rules_next c.in-Some.rule.now c.next.new.self.rest.now (next_rule c))
 
 pub put_field-at-requires : goal.put_field-at-requires
 put_field-at-requires c =
-    let at-loop = c.loop-k in
-    let rules = c.args.rules.now in
-    let long = length_rule_at at-loop.k rules (omega arith) in
-    (omega (arith, at-loop.invariant.1.end, stored_long at-loop.invariant.1, length_rules at-loop.k rules at-loop.invariant.0), omega arith)
+    let turn = (goal.at.put_field-at-requires c).In-Some in
+    let rest = c.loop-rule.rule-iterator.rest.now in
+    let (sized, (done, stored, all)) = c.loop-rule.invariant in
+    let long = next_rule turn in (
+      omega (
+        arith,
+        stored.end,
+        ap length all,
+        length-append done (rules_bytes (length rest / 27) rest),
+        length_all_rules rest,
+        length_all_rules c.args.rules.now,
+        ap length c.in-Some.ensures.steps.1.0,
+        length-append c.in-Some.rule.now c.next.new.self.rest.now,
+        c.loop-rule.auto.place,
+      ),
+      omega arith,
+    )
 
-pub overflow_add-k : goal.overflow_add-k
-overflow_add-k c = omega arith
-
-pub loop-k-smaller : goal.loop-k-smaller
-loop-k-smaller c = omega arith
-
-pub loop-k-preserved : goal.loop-k-preserved
-loop-k-preserved c =
-    let at-loop = c.loop-k in
-    (omega arith, rw rules_more (stored_more at-loop.invariant.1 c.put_field-at.ensures))
-
-pub shape_of-place : goal.shape_of-place
-shape_of-place c = stored_long c.loop-k.invariant.1
+pub loop-rule-preserved : goal.loop-rule-preserved
+loop-rule-preserved c =
+    let turn = (goal.at.loop-rule-preserved c).In-Some in
+    let (sized, (done, stored, all)) = c.loop-rule.invariant in (
+      c.in-Some.ensures.steps.0 ∙ sized,
+      (
+        done ++ field_bytes rule_tag c.in-Some.rule.now,
+        stored_more stored c.put_field-at.ensures,
+        rw append_assoc (rw (next_field turn) at all),
+      ),
+    )
 
 pub returns : goal.returns
 returns c =
-    let at-loop = c.loop-k in
-    let all : length c.args.rules.now / 27 ≡ at-loop.k = omega arith in
-    rw all at-loop.invariant.1
+    let rest = c.loop-rule.rule-iterator.rest.now in
+    let (sized, (done, stored, all)) = c.loop-rule.invariant in
+    let none_left = no_rules rest (omega (arith, c.in-None.ensures.steps.1.0, sized)) in
+    rw (sym all, none_left, append-nil) stored

@@ -77,19 +77,19 @@ differs c not_found =
     unless_suspect c.may_hold.result _
     (rw (← rule_is (goal.at.After-known_if c).After-record_at-rule) (sym c.known_if.ensures ∙ not_found))
     (λ new.
-    unmarked a.skip rules are c.loop-k.k (fits (goal.at.After-known_if c).In-loop-k) cells c.loop-k.invariant.2
+    unmarked a.skip rules are c.loop-k.k (fits (goal.at.After-known_if c).In-loop-k) cells c.loop-k.invariant.1
     (ap (holds_mark cells) (sym (marked (goal.at.After-known_if c).After-mark_of-mark)) ∙ sym suspected ∙ new))
 
 pub loop-k-init : goal.loop-k-init
 loop-k-init c =
     let a = c.args in
-    (omega arith, apart_none a.skip a.rules.now, marked_none a.skip a.rules.now _ (search rules))
+    (apart_none a.skip a.rules.now, marked_none a.skip a.rules.now _ (search rules))
 
 pub other_field-requires : goal.other_field-requires
 other_field-requires c = inside c
 
 pub returns-then-other_field : goal.returns-then-other_field
-returns-then-other_field c = c.loop-k.invariant.1
+returns-then-other_field c = c.loop-k.invariant.0
 
 pub bounds-cells-place : goal.bounds-cells-place
 bounds-cells-place c = omega (arith, c.mark_of-mark.ensures.1)
@@ -98,16 +98,10 @@ pub known_if-requires : goal.known_if-requires
 known_if-requires c = (long (goal.at.known_if-requires c).After-record_at-rule, omega (arith, there (goal.at.known_if-requires c).In-loop-k))
 
 pub returns-then-known_if : goal.returns-then-known_if
-returns-then-known_if c = c.loop-k.invariant.1
+returns-then-known_if c = c.loop-k.invariant.0
 
 pub bounds-cells-place-in-loop-k : goal.bounds-cells-place-in-loop-k
 bounds-cells-place-in-loop-k c = omega (arith, c.mark_of-mark.ensures.1)
-
-pub overflow_add-k : goal.overflow_add-k
-overflow_add-k c = omega (arith, c.records-top.ensures, c.loop-k-test.true)
-
-pub loop-k-smaller : goal.loop-k-smaller
-loop-k-smaller c = omega (arith, c.loop-k-test.true)
 
 pub loop-k-preserved : goal.loop-k-preserved
 loop-k-preserved c =
@@ -117,11 +111,12 @@ loop-k-preserved c =
     let m = c.mark_of-mark.result in
     let kept : c.with_tag.result ≡ with_tag (get_or cells (m / 256) 0) (m % 254 + 1) =
     c.with_tag.ensures ∙ ap (with_tag (get_or cells (m / 256) 0)) c.tag_of-tag.ensures in (
-      omega (arith, c.loop-k-test.true),
-      apart_more a.skip k a.rules.now c.loop-k.invariant.1 (differs (goal.at.loop-k-preserved c).After-known_if c.if-known_if.false),
+      apart_more a.skip k a.rules.now c.loop-k.invariant.0 (differs (goal.at.loop-k-preserved c).After-known_if c.if-known_if.false),
       subst (λ (cell : ℕ). Marked a.skip (k + 1) a.rules.now (set cells (m / 256) cell)) (sym kept)
-          (marked_more a.skip k a.rules.now cells m (marked (goal.at.loop-k-preserved c).After-mark_of-mark) c.mark_of-mark.ensures.1 c.loop-k.invariant.2),
+          (marked_more a.skip k a.rules.now cells m (marked (goal.at.loop-k-preserved c).After-mark_of-mark) c.mark_of-mark.ensures.1 c.loop-k.invariant.1),
     )
 
 pub returns : goal.returns
-returns c = c.loop-k.invariant.1
+returns c =
+    let all : c.loop-k.k ≡ c.records-top.result = omega arith in
+    rw all at c.loop-k.invariant.0

@@ -45,7 +45,7 @@ met c =
     c.same_rule.ensures
 
 pub loop-k-init : goal.loop-k-init
-loop-k-init c = (omega arith, refl)
+loop-k-init c = refl
 
 pub same_rule-requires : goal.same_rule-requires
 same_rule-requires c = ((cut c).1, c.requires.0)
@@ -53,29 +53,21 @@ same_rule-requires c = ((cut c).1, c.requires.0)
 pub returns-then-same_rule : goal.returns-then-same_rule
 returns-then-same_rule c =
     let a = c.args in
-    sym (c.loop-k.invariant.1
+    sym (c.loop-k.invariant
     ∙ known_here (rule_of a.rule.now) (among a.skip a.count a.rules.now) c.loop-k.k
     (rule_of (drop a.skip [])) (inside (goal.at.returns-then-same_rule c).In-loop-k) (sym (met (goal.at.returns-then-same_rule c).After-same_rule) ∙ c.if-same_rule.true))
 
-pub overflow_add-k : goal.overflow_add-k
-overflow_add-k c = omega arith
-
-pub loop-k-smaller : goal.loop-k-smaller
-loop-k-smaller c = omega arith
-
 pub loop-k-preserved : goal.loop-k-preserved
 loop-k-preserved c =
-    let a = c.args in (
-      omega arith,
-      c.loop-k.invariant.1
-          ∙ known_later (rule_of a.rule.now) (among a.skip a.count a.rules.now) c.loop-k.k
-          (rule_of (drop a.skip [])) (inside (goal.at.loop-k-preserved c).In-loop-k) (sym (met (goal.at.loop-k-preserved c).After-same_rule) ∙ c.if-same_rule.false),
-    )
+    let a = c.args in
+    c.loop-k.invariant
+    ∙ known_later (rule_of a.rule.now) (among a.skip a.count a.rules.now) c.loop-k.k
+    (rule_of (drop a.skip [])) (inside (goal.at.loop-k-preserved c).In-loop-k) (sym (met (goal.at.loop-k-preserved c).After-same_rule) ∙ c.if-same_rule.false)
 
 pub returns : goal.returns
 returns c =
     let a = c.args in
     let all = records_fit a.skip a.count a.rules.now c.requires.1 in
-    sym (c.loop-k.invariant.1
+    sym (c.loop-k.invariant
     ∙ known_nowhere (rule_of a.rule.now) (among a.skip a.count a.rules.now) c.loop-k.k
     (omega (arith, first_count a.skip a.count a.rules.now all)))

@@ -1,8 +1,7 @@
-use Prim.Native.Nat.{ℕ, ◌≤◌, ◌-◌}
+use Prim.Native.Nat.{ℕ}
 use mathlib.Core.Path.{◌≡◌}
 use mathlib.Core.List.{List}
 use lib.ListN.{take, drop}
-use borrow.Author.Rules.{rules}
 use Rattle.policy.specs.Rule.{Rule}
 use Rattle.deployment.specs.Values.{rule_of, known}
 use Rattle.deployment.specs.Catalogue.{catalogue_of}
@@ -13,8 +12,4 @@ abbrev pub among : ℕ → ℕ → List ℕ → List Rule
 among skip count rules = take count (catalogue_of skip rules)
 
 abbrev pub invariant-loop-k : goal.invariant-loop-k
-invariant-loop-k l =
-    (l.k ≤ l.count) × (known (rule_of l.rule) (among l.skip l.count l.rules) ≡ known (rule_of l.rule) (drop l.k (among l.skip l.count l.rules)))
-
-abbrev pub decreases-loop-k : goal.decreases-loop-k
-decreases-loop-k l = l.count - l.k
+invariant-loop-k l = known (rule_of l.rule) (among l.skip l.count l.rules) ≡ known (rule_of l.rule) (drop l.k (among l.skip l.count l.rules))

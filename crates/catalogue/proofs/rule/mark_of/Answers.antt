@@ -12,9 +12,6 @@ loop-k-init c =
     let begun = c.action_mark-mixed.ensures in
     (omega (arith, begun, first_small rule), ap (λ n. mixed_from n (drop 1 rule)) (sym begun))
 
-pub bounds-rule-k : goal.bounds-rule-k
-bounds-rule-k c = omega arith
-
 pub overflow_cast-mixed : goal.overflow_cast-mixed
 overflow_cast-mixed c = omega (arith, c.type_inv.rule c.loop-k.k)
 
@@ -23,12 +20,6 @@ overflow_add-mixed c = omega (arith, c.type_inv.rule c.loop-k.k)
 
 pub overflow_mul-mixed : goal.overflow_mul-mixed
 overflow_mul-mixed c = omega (arith, c.type_inv.rule c.loop-k.k)
-
-pub overflow_add-k : goal.overflow_add-k
-overflow_add-k c = omega arith
-
-pub loop-k-smaller : goal.loop-k-smaller
-loop-k-smaller c = omega arith
 
 pub loop-k-preserved : goal.loop-k-preserved
 loop-k-preserved c = (omega arith, c.loop-k.invariant.1 ∙ mixed_further c.loop-k.mixed c.args.rule.now c.loop-k.k (omega arith))

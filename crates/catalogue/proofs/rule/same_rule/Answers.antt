@@ -1,6 +1,6 @@
 -- `same_rule` meets its contract: equal actions, and the same bytes behind them. Assumes nothing.
 use native.Mathlib.Omega.{arith}
-use mathlib.Core.Path.{◌≡◌}
+use mathlib.Core.Path.{◌≡◌, ◌∙◌}
 use Prim.Native.Nat.{ℕ, ◌<◌}
 use mathlib.Core.List.{List}
 use mathlib.Core.Bool.{Bool, ◌&&◌, beq}
@@ -12,6 +12,7 @@ use Rattle.deployment.specs.Values.{rule_of, same_rule}
 use Rattle.deployment.proofs.Bytes.{elements_are_bytes}
 use Rattle.deployment.proofs.Records.{part_to_end}
 use Rattle.catalogue.proofs.Rules.{same_rule_bytes}
+use Rattle.catalogue.proofs.SideBySide.{same_pairs}
 use Rattle.catalogue.proofs.rule.same_rule.Goals as goal
 
 -- the test of the actions, and what is compared of the rules
@@ -34,4 +35,4 @@ unfolding actions
 returns c =
     let args = c.args in
     rw (compared args.a.now args.b.now (λ i. omega (arith, c.type_inv.a i)) (λ i. omega (arith, c.type_inv.b i)) c.requires.0 c.requires.1, not-false (actions args.a.now args.b.now) c.if-a-b.false)
-    (rw (part_to_end 1 args.a.now, part_to_end 1 args.b.now) at c.same_bytes.ensures)
+    ((rw (part_to_end 1 args.a.now, part_to_end 1 args.b.now) at c.eq.ensures) ∙ same_pairs (drop 1 args.a.now) (drop 1 args.b.now))

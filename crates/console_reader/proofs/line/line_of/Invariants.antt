@@ -1,4 +1,3 @@
-use Prim.Native.Nat.{◌-◌, ◌≤◌}
 use mathlib.Core.Path.{◌≡◌}
 use lib.ListN.{drop}
 use Rattle.policy.specs.Command.{codes_of}
@@ -7,7 +6,4 @@ use Rattle.console_reader.proofs.Codes.{read_from}
 use Rattle.console_reader.proofs.line.line_of.Given as goal
 
 abbrev pub invariant-loop-code : goal.invariant-loop-code
-invariant-loop-code l = (l.code ≤ 6) × (any_read l.maker (codes_of l.kind) (drop l.at l.text) ≡ read_from l.maker l.kind (drop l.at l.text) l.code)
-
-abbrev pub decreases-loop-code : goal.decreases-loop-code
-decreases-loop-code l = 6 - l.code
+invariant-loop-code l = any_read l.maker (codes_of l.kind) (drop l.at l.text) ≡ read_from l.maker l.kind (drop l.at l.text) l.code

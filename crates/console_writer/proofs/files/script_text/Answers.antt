@@ -1,35 +1,27 @@
 -- `files::script_text` meets its contract: the script at its place in an accepted file is that of the contents, and its text is written. Assumes
 -- nothing.
-use Prim.Native.Nat.{ℕ}
 use native.Mathlib.Omega.{arith}
-use mathlib.Core.Path.{sym, ◌∙◌}
-use mathlib.Core.List.{List}
-use Rattle.deployment.specs.FieldValues.{left_alone}
+use mathlib.Core.Path.{◌≡◌}
 use Rattle.deployment.specs.Properties.{AreBytes}
-use Rattle.deployment.specs.declared.Written.TheVariants.{Turned}
 use Rattle.deployment.proofs.Bytes.{elements_are_bytes}
-use Rattle.deployment.proofs.Lent.{turned_away}
-use Rattle.entries.proofs.Given.{file_turned_to_judge}
-use Rattle.console_text.specs.Answers.{text_of_reading, text_of_file}
-use Rattle.console_writer.proofs.Values.{file_fit, file_written}
+use Rattle.std.specs.Prelude.{Err}
+use borrow.Author.Rules.{rules}
+use Rattle.console_writer.proofs.Values.{file_turned, file_fit, file_written}
 use Rattle.console_writer.proofs.files.script_text.Goals as goal
-use Rattle.console_writer.proofs.files.script_text.Goals.{After-read_to_judge-found}
 
-abbrev file : After-read_to_judge-found → List ℕ
-file c = c.args.file.now
+pub returns : goal.returns
+returns c =
+    let a = c.args in
+    let file = a.file.now in
+    let layout = c.in_ok-layout.layout in
+    let bytes : AreBytes file = elements_are_bytes file (λ i. omega (arith, c.type_inv.file i)) in
+    let read = c.in_ok-layout.ensures in
+    let own = c.value_or_empty.ensures in
+    file_written file layout bytes read own a.maker a.place.now (c.write_text.ensures (file_fit file layout bytes read own))
 
-bytes : (c : After-read_to_judge-found) → AreBytes (file c)
-bytes c = elements_are_bytes (file c) (λ i. omega (arith, c.type_inv.file i))
-
-pub returns-in-Accepted : goal.returns-in-Accepted
-returns-in-Accepted c =
-    let layout = c.in-Accepted.layout in
-    let args = c.args in
-    let accepted = sym c.in-Accepted.is ∙ c.read_to_judge-found.ensures in
-    file_written (file (goal.at.returns-in-Accepted c).After-read_to_judge-found) layout (bytes (goal.at.returns-in-Accepted c).After-read_to_judge-found) accepted c.value.ensures args.maker args.place.now
-    (c.write_text.ensures (file_fit (file (goal.at.returns-in-Accepted c).After-read_to_judge-found) layout (bytes (goal.at.returns-in-Accepted c).After-read_to_judge-found) accepted c.value.ensures))
-
-pub returns-in-Refused : goal.returns-in-Refused
-unfolding text_of_file text_of_reading
-returns-in-Refused c =
-    turned_away _ (left_alone Turned c.args.place.now) _ (file_turned_to_judge (file (goal.at.returns-in-Refused c).After-read_to_judge-found) c.read_to_judge-found.ensures c.in-Refused.is)
+pub returns-in_err-layout : goal.returns-in_err-layout
+returns-in_err-layout c =
+    let a = c.args in
+    let refusal = c.in_err-layout.field-0.0 in
+    let handed : c.from_residual.result ≡ Err refusal = search rules in
+    rw handed (file_turned a.maker a.file.now a.place.now refusal c.in_err-layout.ensures)

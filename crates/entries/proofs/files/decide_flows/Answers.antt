@@ -1,40 +1,32 @@
 -- `files::decide_flows` meets its contract: turned away as the file is, or answered by the parts at the places of its catalogue and its
 -- policy. Assumes nothing.
-use Prim.Native.Nat.{ℕ}
 use native.Mathlib.Omega.{arith}
-use mathlib.Core.List.{List}
+use Rattle.std.proofs.lemmas.Result.{err_from_is_err_and}
 use Rattle.deployment.specs.File.{read_file}
 use Rattle.deployment.proofs.Bytes.{elements_are_bytes}
-use Rattle.reader.specs.declared.Layout.{Layout}
-use Rattle.reader.proofs.FileAnswers.{Holds}
 use Rattle.deployment.proofs.Lent.{turned_away}
+use Rattle.reader.proofs.ShownReadings.{file_refused}
+use Rattle.reader.proofs.FileAnswers.{Holds, file_holds}
 use Rattle.entries.specs.Answers.{flows_reading}
-use Rattle.entries.proofs.Given.{file_held, file_turned}
 use Rattle.entries.proofs.Decisions.{few_rules, flows_of_file}
 use Rattle.entries.proofs.files.decide_flows.Goals as goal
-use Rattle.entries.proofs.files.decide_flows.Goals.{In-Accepted}
+use Rattle.entries.proofs.files.decide_flows.Goals.{In_ok-layout}
 
--- the layout that was read, and what stands there
-abbrev layout : In-Accepted → Layout
-layout c = c.in-Accepted.layout
+-- what stands in the file
+stands : (c : In_ok-layout) → Holds (read_file c.args.file.now) c.args.file.now c.in_ok-layout.layout
+stands c = file_holds _ _ (elements_are_bytes _ (λ i. omega (arith, c.type_inv.file i))) c.in_ok-layout.ensures
 
-abbrev file : In-Accepted → List ℕ
-file c = c.args.file.now
-
-stands : (c : In-Accepted) → Holds (read_file (file c)) (file c) (layout c)
-stands c =
-    file_held (file c) (elements_are_bytes (file c) (λ i. omega (arith, c.type_inv.file i))) c.read-found.ensures
-    c.in-Accepted.is
-
-pub rules_of-rules-requires : goal.rules_of-rules-requires
-rules_of-rules-requires c = few_rules (stands (goal.at.rules_of-rules-requires c).In-Accepted)
-
-pub returns-in-Refused : goal.returns-in-Refused
+pub returns-in_err-layout : goal.returns-in_err-layout
 unfolding flows_reading
-returns-in-Refused c = turned_away _ _ _ (file_turned _ c.read-found.ensures c.in-Refused.is)
+returns-in_err-layout c =
+    let p = err_from_is_err_and c.from_residual.result c.from_residual.ensures.1 in
+    rw (p.1, p.2) (turned_away _ _ _ (file_refused _ _ c.in_err-layout.ensures))
 
-pub returns-in-Accepted : goal.returns-in-Accepted
-returns-in-Accepted c =
+pub rules_of-requires : goal.rules_of-requires
+rules_of-requires c = few_rules (stands (goal.at.rules_of-requires c).In_ok-layout)
+
+pub returns : goal.returns
+returns c =
     let a = c.args in
-    flows_of_file (stands (goal.at.returns-in-Accepted c).In-Accepted) a.of_target c.asked-list.ensures c.rules_of-rules.ensures c.value.ensures
-    c.value-in-Accepted.ensures c.default_of.ensures a.flows.now a.place.now c.decide_into.ensures
+    flows_of_file (stands (goal.at.returns c).In_ok-layout) a.of_target c.asked.ensures c.rules_of.ensures c.value.ensures
+    c.value-2.ensures c.is_some.ensures c.default_of.ensures a.flows.now a.place.now c.decide_into.ensures

@@ -1,22 +1,17 @@
 -- `files::replay` meets its contract: turned away as the file is, or as the replay of the values at the places of the file. Assumes nothing.
 use native.Mathlib.Omega.{arith}
-use mathlib.Core.Path.{sym, ◌∙◌}
 use Rattle.deployment.proofs.Bytes.{elements_are_bytes}
 use Rattle.deployment.proofs.Lent.{turned_away}
 use Rattle.entries.specs.Answers.{replayed_reading}
-use Rattle.entries.proofs.Given.{file_turned_to_judge}
+use Rattle.reader.proofs.ShownReadings.{shown_refused}
 use Rattle.entries.proofs.Replays.{replayed_file}
 use Rattle.entries.proofs.files.replay.Goals as goal
 
-pub returns-in-Refused : goal.returns-in-Refused
+pub returns-in-Err : goal.returns-in-Err
 unfolding replayed_reading
-returns-in-Refused c = turned_away _ _ _ (file_turned_to_judge _ c.read_to_judge-found.ensures c.in-Refused.is)
+returns-in-Err c = turned_away _ _ _ (shown_refused _ _ c.in-Err.ensures)
 
-pub returns-in-Accepted : goal.returns-in-Accepted
-returns-in-Accepted c =
-    let a = c.args in
-    let file = a.file.now in
-    replayed_file file c.in-Accepted.layout
-    (elements_are_bytes file (λ i. omega (arith, c.type_inv.file i)))
-    (sym c.in-Accepted.is ∙ c.read_to_judge-found.ensures) a.place.now
-    c.value.ensures c.value-in-Accepted.ensures c.replay_into.ensures
+pub returns-in-Ok : goal.returns-in-Ok
+returns-in-Ok c =
+    replayed_file _ c.in-Ok.layout (elements_are_bytes _ (λ i. omega (arith, c.type_inv.file i))) c.in-Ok.ensures c.args.place.now
+    c.value.ensures c.value_or_empty-script.ensures c.replay_into.ensures

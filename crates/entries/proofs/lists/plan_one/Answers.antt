@@ -1,48 +1,40 @@
 -- `lists::plan_one` meets its contract: values that are turned away leave the place as it was; else the lists are planned as they are given.
 -- Assumes nothing.
-use native.Mathlib.Omega.{arith}
-use Rattle.deployment.proofs.Bytes.{elements_are_bytes}
-use Rattle.entries.specs.Answers.{planned}
-use Rattle.values.proofs.ValuesLent.{Lent, LentRead}
+use Rattle.std.proofs.lemmas.Result.{err_from_is_err_and}
+use Rattle.deployment.specs.FieldValues.{FieldValues, lent}
 use Rattle.deployment.proofs.Lent.{turned_away}
-use Rattle.entries.proofs.Given.{values_passed, values_turned, planners_ask, one_planned, values_given_lem}
+use Rattle.values.proofs.ValuesLent.{LentRead, values_refused}
+use Rattle.entries.specs.Answers.{planned}
+use Rattle.entries.proofs.Given.{opened, planners_ask, one_planned, values_given_lem}
 use Rattle.entries.proofs.lists.plan_one.Goals as goal
-use Rattle.entries.proofs.lists.plan_one.Goals.{After-values_checked-c, In_default}
+use Rattle.entries.proofs.lists.plan_one.Goals.{After-values}
 
-abbrev lent : After-values_checked-c → Lent
-lent c =
-    let args = c.args in
+abbrev values : After-values → FieldValues
+values c =
+    let v = c.values.inside in
     record {
-      rules = args.rules.now;
-      initial = args.initial.now;
-      target = args.target.now;
-      has_default = args.has_default;
-      default = args.default.now;
-      has_keep = args.has_keep;
-      keep = args.keep.now;
-      has_script = args.has_script;
-      script = args.script.now;
+      rules = v.rules.now;
+      initial = v.initial.now;
+      target = v.target.now;
+      default = lent v.default;
+      keep = lent v.keep;
+      script = lent v.script;
     }
 
 -- the values pass
-passed : (c : In_default) → LentRead (lent (goal.at.In_default c).After-values_checked-c)
-passed c =
-    values_passed (lent (goal.at.In_default c).After-values_checked-c) c.values_checked-c.ensures
-    (elements_are_bytes _ (λ i. omega (arith, c.type_inv.rules i)))
-    (elements_are_bytes _ (λ i. omega (arith, c.type_inv.initial i)))
-    (elements_are_bytes _ (λ i. omega (arith, c.type_inv.target i)))
-    (elements_are_bytes _ (λ i. omega (arith, c.type_inv.default i)))
-    (elements_are_bytes _ (λ i. omega (arith, c.type_inv.keep i)))
-    (elements_are_bytes _ (λ i. omega (arith, c.type_inv.script i)))
-    c.in_default.is
+passed : (c : After-values) → LentRead (values c)
+passed c = opened c.values.view_is c.checked.ensures.bytes c.in_ok-checked.ensures.tested
 
-pub returns-in-Bad : goal.returns-in-Bad
+pub returns-in_err-checked : goal.returns-in_err-checked
 unfolding planned
-returns-in-Bad c =
-    turned_away _ _ _ (values_turned (lent (goal.at.returns-in-Bad c).After-values_checked-c) c.values_checked-c.ensures c.in-Bad.is)
+returns-in_err-checked c =
+    let p = err_from_is_err_and c.from_residual.result c.from_residual.ensures.1 in
+    rw (p.1, p.2) (turned_away _ _ _ (values_refused _ _ c.in_err-checked.ensures.tested))
 
 pub plan_one-requires : goal.plan_one-requires
-plan_one-requires c = let a = planners_ask (values_given_lem (passed (goal.at.plan_one-requires c).In_default)) in (a.0.first, a.1, a.2)
+plan_one-requires c = let a = planners_ask (values_given_lem (passed (goal.at.plan_one-requires c).After-values)) in (a.0.first, a.1, a.2)
 
 pub returns : goal.returns
-returns c = one_planned (values_given_lem (passed (goal.at.returns c).In_default)) c.args.place.now c.plan_one.ensures
+returns c =
+    rw (← c.values.view_is)
+    (one_planned (values_given_lem (passed (goal.at.returns c).After-values)) c.args.place.now c.plan_one.ensures)

@@ -1,18 +1,16 @@
 -- `lists::replay` meets its contract: turned away at the rules or the policy, or as the replay over as many rules as their bytes hold. Assumes
 -- nothing.
-use mathlib.Core.Path.{sym, ◌∙◌}
+use mathlib.Core.Path.{◌∙◌}
 use Rattle.entries.proofs.Replays.{turned_before, replayed_values_lem}
 use Rattle.entries.proofs.lists.replay.Goals as goal
 
-pub returns-in-Bad : goal.returns-in-Bad
-returns-in-Bad c =
+pub returns-in-Err : goal.returns-in-Err
+returns-in-Err c =
     let a = c.args in
-    turned_before a.rules.now a.initial.now a.has_default a.default.now a.script.now a.place.now _
-    (sym c.in-Bad.is ∙ c.tested-found.ensures)
+    rw c.into.ensures (turned_before a.rules.now a.initial.now a.default a.script.now a.place.now _ c.in-Err.ensures)
 
-pub returns : goal.returns
-returns c =
+pub returns-in-Ok : goal.returns-in-Ok
+returns-in-Ok c =
     let a = c.args in
     c.replay_into.ensures
-    ∙ replayed_values_lem a.rules.now a.initial.now a.has_default a.default.now a.script.now a.place.now
-    (sym c.in_default.is ∙ c.tested-found.ensures)
+    ∙ replayed_values_lem a.rules.now a.initial.now a.default a.script.now a.place.now c.in-Ok.ensures

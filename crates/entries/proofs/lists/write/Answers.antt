@@ -1,48 +1,25 @@
 -- `lists::write` meets its contract: values that are turned away leave the place as it was; else the file of their contents is written.
 -- Assumes nothing.
-use native.Mathlib.Omega.{arith}
-use Rattle.deployment.proofs.Bytes.{elements_are_bytes}
-use Rattle.entries.specs.Answers.{written_values}
-use Rattle.values.proofs.ValuesLent.{Lent, LentRead}
+use Rattle.std.proofs.lemmas.Result.{err_from_is_err_and}
 use Rattle.deployment.proofs.Lent.{turned_away}
-use Rattle.entries.proofs.Given.{values_passed, values_turned, writer_asks, file_written}
+use Rattle.values.proofs.ValuesLent.{LentRead, values_refused, values_accepted}
+use Rattle.entries.specs.Answers.{written_values}
+use Rattle.entries.proofs.Given.{writer_asks, file_written}
 use Rattle.entries.proofs.lists.write.Goals as goal
-use Rattle.entries.proofs.lists.write.Goals.{After-values_checked-c, In_default}
-
-abbrev lent : After-values_checked-c → Lent
-lent c =
-    let args = c.args in
-    record {
-      rules = args.rules.now;
-      initial = args.initial.now;
-      target = args.target.now;
-      has_default = args.has_default;
-      default = args.default.now;
-      has_keep = args.has_keep;
-      keep = args.keep.now;
-      has_script = args.has_script;
-      script = args.script.now;
-    }
+use Rattle.entries.proofs.lists.write.Goals.{In_ok-checked}
 
 -- the values pass
-passed : (c : In_default) → LentRead (lent (goal.at.In_default c).After-values_checked-c)
-passed c =
-    values_passed (lent (goal.at.In_default c).After-values_checked-c) c.values_checked-c.ensures
-    (elements_are_bytes _ (λ i. omega (arith, c.type_inv.rules i)))
-    (elements_are_bytes _ (λ i. omega (arith, c.type_inv.initial i)))
-    (elements_are_bytes _ (λ i. omega (arith, c.type_inv.target i)))
-    (elements_are_bytes _ (λ i. omega (arith, c.type_inv.default i)))
-    (elements_are_bytes _ (λ i. omega (arith, c.type_inv.keep i)))
-    (elements_are_bytes _ (λ i. omega (arith, c.type_inv.script i)))
-    c.in_default.is
+passed : (c : In_ok-checked) → LentRead c.args.values.now
+passed c = values_accepted _ c.checked.ensures.bytes c.in_ok-checked.ensures.tested
 
-pub returns-in-Bad : goal.returns-in-Bad
+pub returns-in_err-checked : goal.returns-in_err-checked
 unfolding written_values
-returns-in-Bad c =
-    turned_away _ _ _ (values_turned (lent (goal.at.returns-in-Bad c).After-values_checked-c) c.values_checked-c.ensures c.in-Bad.is)
+returns-in_err-checked c =
+    let p = err_from_is_err_and c.from_residual.result c.from_residual.ensures.1 in
+    rw (p.1, p.2) (turned_away _ _ _ (values_refused _ _ c.in_err-checked.ensures.tested))
 
 pub write_into-requires : goal.write_into-requires
-write_into-requires c = writer_asks (passed (goal.at.write_into-requires c).In_default)
+write_into-requires c = writer_asks (passed (goal.at.write_into-requires c).In_ok-checked)
 
 pub returns : goal.returns
-returns c = file_written (passed (goal.at.returns c).In_default) c.args.place.now c.write_into.ensures
+returns c = file_written (passed (goal.at.returns c).In_ok-checked) c.args.place.now c.write_into.ensures

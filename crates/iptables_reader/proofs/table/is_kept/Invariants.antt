@@ -5,6 +5,3 @@ use Rattle.iptables_reader.proofs.table.is_kept.Given as goal
 
 abbrev pub invariant-loop-k : goal.invariant-loop-k
 invariant-loop-k l = known_from l.listing l.starts l.bytes l.count 0 ≡ known_from l.listing l.starts l.bytes l.count l.k
-
-abbrev pub decreases-loop-k : goal.decreases-loop-k
-decreases-loop-k l = l.count - l.k

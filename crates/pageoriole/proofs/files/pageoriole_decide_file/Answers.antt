@@ -1,8 +1,7 @@
 -- `files::pageoriole_decide_file` meets its contract: what the entry answers, told. Assumes nothing.
-use borrow.Author.Rules.{rules}
 use Rattle.told.specs.Answers.{decided_told}
 use Rattle.told.proofs.Telling.{tells_of}
 use Rattle.pageoriole.proofs.files.pageoriole_decide_file.Goals as goal
 
 pub returns : goal.returns
-returns c = tells_of decided_told c.decide-found.ensures c.tell_decided.ensures
+returns c = tells_of decided_told c.decide.ensures c.tell_decided.ensures

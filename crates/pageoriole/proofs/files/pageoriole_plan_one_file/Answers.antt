@@ -1,8 +1,7 @@
 -- `files::pageoriole_plan_one_file` meets its contract: what the entry answers, told. Assumes nothing.
-use borrow.Author.Rules.{rules}
 use Rattle.pageoriole.specs.Answers.{plan_outcome}
 use Rattle.pageoriole.proofs.Telling.{leaves_of}
 use Rattle.pageoriole.proofs.files.pageoriole_plan_one_file.Goals as goal
 
 pub returns : goal.returns
-returns c = leaves_of plan_outcome c.plan_one-found.ensures c.tell_planned.ensures
+returns c = leaves_of plan_outcome c.plan_one.ensures c.tell_planned.ensures

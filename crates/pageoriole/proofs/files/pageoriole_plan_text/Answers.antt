@@ -1,8 +1,7 @@
 -- `files::pageoriole_plan_text` meets its contract: what the entry answers, told. Assumes nothing.
-use borrow.Author.Rules.{rules}
 use Rattle.pageoriole.specs.Answers.{write_outcome}
 use Rattle.pageoriole.proofs.Telling.{leaves_of}
 use Rattle.pageoriole.proofs.files.pageoriole_plan_text.Goals as goal
 
 pub returns : goal.returns
-returns c = leaves_of write_outcome c.plan_text-found.ensures c.tell_written.ensures
+returns c = leaves_of write_outcome c.plan_text.ensures c.tell_written.ensures

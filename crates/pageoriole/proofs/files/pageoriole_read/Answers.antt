@@ -1,8 +1,7 @@
 -- `files::pageoriole_read` meets its contract: what the entry answers, told. Assumes nothing.
-use borrow.Author.Rules.{rules}
 use Rattle.told.specs.Answers.{read_told}
 use Rattle.told.proofs.Telling.{tells_of}
 use Rattle.pageoriole.proofs.files.pageoriole_read.Goals as goal
 
 pub returns : goal.returns
-returns c = tells_of read_told c.read-found.ensures c.tell_read.ensures
+returns c = tells_of read_told c.read.ensures c.tell_read.ensures

@@ -1,8 +1,7 @@
 -- `files::pageoriole_read_to_judge` meets its contract: what the entry answers, told. Assumes nothing.
-use borrow.Author.Rules.{rules}
 use Rattle.told.specs.Answers.{read_told}
 use Rattle.told.proofs.Telling.{tells_of}
 use Rattle.pageoriole.proofs.files.pageoriole_read_to_judge.Goals as goal
 
 pub returns : goal.returns
-returns c = tells_of read_told c.read_to_judge-found.ensures c.tell_read.ensures
+returns c = tells_of read_told c.read_to_judge.ensures c.tell_read.ensures

@@ -1,8 +1,7 @@
 -- `files::pageoriole_replay_file` meets its contract: what the entry answers, told. Assumes nothing.
-use borrow.Author.Rules.{rules}
 use Rattle.pageoriole.specs.Answers.{replay_outcome}
 use Rattle.pageoriole.proofs.Telling.{leaves_of}
 use Rattle.pageoriole.proofs.files.pageoriole_replay_file.Goals as goal
 
 pub returns : goal.returns
-returns c = leaves_of replay_outcome c.replay-found.ensures c.tell_ran.ensures
+returns c = leaves_of replay_outcome c.replay.ensures c.tell_ran.ensures

@@ -1,8 +1,7 @@
 -- `lists::pageoriole_write` meets its contract: what the entry answers, told. Assumes nothing.
-use borrow.Author.Rules.{rules}
 use Rattle.pageoriole.specs.Answers.{write_outcome}
 use Rattle.pageoriole.proofs.Telling.{leaves_of}
 use Rattle.pageoriole.proofs.lists.pageoriole_write.Goals as goal
 
 pub returns : goal.returns
-returns c = leaves_of write_outcome c.write-found.ensures c.tell_written.ensures
+returns c = leaves_of write_outcome (rw c.values-values.ensures at c.write.ensures) c.tell_written.ensures

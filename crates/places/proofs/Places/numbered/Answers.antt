@@ -1,5 +1,5 @@
 -- `numbered` gives the array that the definition gives. The loop's invariant: numbering what is left of the list, from index k on, gives what
--- numbering it from the first index on gave; the measure is what is left of the list's length. Assumes nothing.
+-- numbering it from the first index on gave. Assumes nothing.
 use Prim.Native.Nat.{ℕ, suc, ◌+◌, ◌≤◌, ◌<◌}
 use native.Mathlib.Omega.{arith}
 use mathlib.Core.Path.{◌≡◌, refl, sym, ◌∙◌, ap}
@@ -37,12 +37,6 @@ overflow_add-of c = record { fits = omega (arith, below (goal.at.overflow_add-of
 
 pub overflow_cast-of : goal.overflow_cast-of
 overflow_cast-of c = record { fits = omega (arith, below (goal.at.overflow_cast-of c).In-loop-k) }
-
-pub overflow_add-k : goal.overflow_add-k
-overflow_add-k c = record { fits = omega (arith, below (goal.at.overflow_add-k c).In-loop-k) }
-
-pub loop-k-smaller : goal.loop-k-smaller
-loop-k-smaller c = omega arith
 
 -- a number past the array's end changes nothing, as in the definition
 stored : (c : Joined-at-lt-MOST_RULES) →

@@ -1,4 +1,4 @@
-use Prim.Native.Nat.{suc, ◌-◌}
+use Prim.Native.Nat.{suc}
 use mathlib.Core.Path.{◌≡◌}
 use lib.ListN.{length, take, drop}
 use Rattle.places.specs.Places.{renumbered}
@@ -7,6 +7,3 @@ use Rattle.places.proofs.Places.numbered.Given as goal
 abbrev pub invariant-loop-k : goal.invariant-loop-k
 invariant-loop-k l =
     (length l.of ≡ 1024) × (renumbered (suc l.k) (drop l.k (take l.len l.rules)) l.of ≡ renumbered (suc l.from) (drop l.from (take l.len l.rules)) l.initial.of)
-
-abbrev pub decreases-loop-k : goal.decreases-loop-k
-decreases-loop-k l = l.len - l.k

@@ -1,4 +1,5 @@
 -- `length_fits` meets its contract: the length of a rule, of a script, of a default, or of a list, by the tag. Assumes nothing.
+use native.Mathlib.Omega.{arith}
 use mathlib.Core.Path.{◌∙◌}
 use lib.Dec.{eqb}
 use borrow.Author.Tests.{ne_eqb}
@@ -7,24 +8,20 @@ use Rattle.deployment.specs.Values.{script_fits}
 use Rattle.deployment.specs.File.{length_fits}
 use Rattle.reader.proofs.file.length_fits.Goals as goal
 
-pub returns-then-tag-eq-RULE_TAG : goal.returns-then-tag-eq-RULE_TAG
+pub returns-in-1 : goal.returns-in-1
 unfolding length_fits
-returns-then-tag-eq-RULE_TAG c = rw c.if-tag-eq-RULE_TAG.true (by_test (eqb c.args.size 27) (λ t. rw t) (λ f. rw f))
+returns-in-1 c = rw c.in-1.is (by_test (eqb c.args.size 27) (λ t. rw t) (λ f. rw f))
 
-pub returns-then-tag-eq-SCRIPT_TAG : goal.returns-then-tag-eq-SCRIPT_TAG
+pub returns-in-6 : goal.returns-in-6
 unfolding length_fits
-returns-then-tag-eq-SCRIPT_TAG c =
-    let size = c.args.size in
-    c.script_fits.ensures ∙ rw c.if-tag-eq-SCRIPT_TAG.true (by_test (script_fits size) (λ t. rw t) (λ f. rw f))
+returns-in-6 c = rw c.in-6.is (by_test (eqb c.args.size 1) (λ t. rw t) (λ f. rw f))
 
-pub returns-then-tag-eq-DEFAULT_TAG : goal.returns-then-tag-eq-DEFAULT_TAG
+pub returns-in-5 : goal.returns-in-5
 unfolding length_fits
-returns-then-tag-eq-DEFAULT_TAG c =
-    let size = c.args.size in
-    rw c.if-tag-eq-DEFAULT_TAG.true (by_test (eqb size 1) (λ t. rw t) (λ f. rw f))
+returns-in-5 c = c.script_fits.ensures ∙ rw c.in-5.is (by_test (script_fits c.args.size) (λ t. rw t) (λ f. rw f))
 
-pub returns : goal.returns
+pub returns-in_default : goal.returns-in_default
 unfolding length_fits
-returns c =
-    c.list_fits.ensures
-    ∙ rw (ne_eqb c.args.tag 1 c.if-tag-eq-RULE_TAG.false, ne_eqb c.args.tag 5 c.if-tag-eq-SCRIPT_TAG.false, ne_eqb c.args.tag 6 c.if-tag-eq-DEFAULT_TAG.false)
+returns-in_default c =
+    let tag = c.args.tag in
+    c.list_fits.ensures ∙ rw (ne_eqb tag 1 (λ e. omega arith), ne_eqb tag 5 (λ e. omega arith), ne_eqb tag 6 (λ e. omega arith))

@@ -3,11 +3,10 @@ use mathlib.Core.Path.{refl}
 use Rattle.deployment.specs.Bytes.{joined}
 use Rattle.deployment.specs.File.{nothing, tag_or, last_tag, if_there}
 use Rattle.deployment.specs.Properties.{fields_bytes}
-use Rattle.values.specs.Answers.{there}
-use Rattle.reader.specs.Answers.{keep_bytes, action_bytes, command_bytes, span_if, absent, end_of}
+use Rattle.reader.specs.Answers.{keep_bytes, action_bytes, command_bytes, span_if, span_given, absent, end_of}
 use Rattle.reader.specs.Steps.{layout_so_far, progress_of}
 use Rattle.reader.proofs.file.nothing_read.Goals as goal
 
 pub returns : goal.returns
-unfolding nothing progress_of tag_or last_tag layout_so_far keep_bytes action_bytes command_bytes span_if absent end_of there fields_bytes if_there joined
+unfolding nothing progress_of tag_or last_tag layout_so_far keep_bytes action_bytes command_bytes span_if span_given absent end_of fields_bytes if_there joined
 returns c = refl

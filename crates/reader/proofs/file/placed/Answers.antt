@@ -1,4 +1,10 @@
 -- `placed` meets its contract: the tag says which field comes, and its place is the only one that changes. Assumes nothing.
+use Prim.Native.Nat.{ℕ}
+use native.Mathlib.Omega.{arith}
+use mathlib.Core.Path.{subst}
+use Rattle.deployment.specs.File.{last_tag}
+use Rattle.deployment.proofs.Fields.{script_left_lem}
+use Rattle.reader.specs.Steps.{More}
 use Rattle.reader.proofs.OneMore.{
   more_stands,
   placed_rule,
@@ -8,42 +14,26 @@ use Rattle.reader.proofs.OneMore.{
   placed_keep,
   placed_script,
 }
-use Prim.Native.Nat.{ℕ}
-use mathlib.Core.Path.{subst}
-use Rattle.deployment.specs.File.{last_tag}
-use Rattle.deployment.proofs.Fields.{script_left_lem}
-use Rattle.reader.specs.Steps.{More}
 use Rattle.reader.proofs.file.placed.Goals as goal
 
-pub returns-then-tag-eq-RULE_TAG : goal.returns-then-tag-eq-RULE_TAG
-returns-then-tag-eq-RULE_TAG c =
-    let a = c.args in
-    λ f g value more l w. placed_rule a.layout a.span (subst (λ (t : ℕ). More f t value g) c.if-tag-eq-RULE_TAG.true more) l
+pub returns-in-1 : goal.returns-in-1
+returns-in-1 c = λ f g value more l w. placed_rule c.args.layout c.args.span (subst (λ (t : ℕ). More f t value g) c.in-1.is more) l
 
-pub returns-then-tag-eq-INITIAL_TAG : goal.returns-then-tag-eq-INITIAL_TAG
-returns-then-tag-eq-INITIAL_TAG c =
-    let a = c.args in
-    λ f g value more l w. placed_initial a.layout a.span (subst (λ (t : ℕ). More f t value g) c.if-tag-eq-INITIAL_TAG.true more) l w
+pub returns-in-2 : goal.returns-in-2
+returns-in-2 c = λ f g value more l w. placed_initial c.args.layout c.args.span (subst (λ (t : ℕ). More f t value g) c.in-2.is more) l w
 
-pub returns-then-tag-eq-TARGET_TAG : goal.returns-then-tag-eq-TARGET_TAG
-returns-then-tag-eq-TARGET_TAG c =
-    let a = c.args in
-    λ f g value more l w. placed_target a.layout a.span (subst (λ (t : ℕ). More f t value g) c.if-tag-eq-TARGET_TAG.true more) l w
+pub returns-in-3 : goal.returns-in-3
+returns-in-3 c = λ f g value more l w. placed_target c.args.layout c.args.span (subst (λ (t : ℕ). More f t value g) c.in-3.is more) l w
 
-pub returns-then-tag-eq-DEFAULT_TAG : goal.returns-then-tag-eq-DEFAULT_TAG
-returns-then-tag-eq-DEFAULT_TAG c =
-    let a = c.args in
-    λ f g value more l w. placed_default a.layout a.span (subst (λ (t : ℕ). More f t value g) c.if-tag-eq-DEFAULT_TAG.true more) l w
+pub returns-in-6 : goal.returns-in-6
+returns-in-6 c = λ f g value more l w. placed_default c.args.layout c.args.span (subst (λ (t : ℕ). More f t value g) c.in-6.is more) l w
 
-pub returns-then-tag-eq-KEEP_TAG : goal.returns-then-tag-eq-KEEP_TAG
-returns-then-tag-eq-KEEP_TAG c =
-    let a = c.args in
-    λ f g value more l w. placed_keep a.layout a.span (subst (λ (t : ℕ). More f t value g) c.if-tag-eq-KEEP_TAG.true more) l w
+pub returns-in-4 : goal.returns-in-4
+returns-in-4 c = λ f g value more l w. placed_keep c.args.layout c.args.span (subst (λ (t : ℕ). More f t value g) c.in-4.is more) l w
 
-pub returns-else-tag-eq-KEEP_TAG : goal.returns-else-tag-eq-KEEP_TAG
-returns-else-tag-eq-KEEP_TAG c =
-    let a = c.args in
+pub returns-in_default : goal.returns-in_default
+returns-in_default c =
     λ f g value more l w.
     let e = script_left_lem (last_tag f) (more_stands more)
-    c.if-tag-eq-RULE_TAG.false c.if-tag-eq-INITIAL_TAG.false c.if-tag-eq-TARGET_TAG.false c.if-tag-eq-DEFAULT_TAG.false c.if-tag-eq-KEEP_TAG.false in
-    placed_script a.layout a.span (subst (λ (t : ℕ). More f t value g) e more) l w
+    (λ e. omega arith) (λ e. omega arith) (λ e. omega arith) (λ e. omega arith) (λ e. omega arith) in
+    placed_script c.args.layout c.args.span (subst (λ (t : ℕ). More f t value g) e more) l w

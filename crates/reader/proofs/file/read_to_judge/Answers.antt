@@ -1,16 +1,16 @@
 -- `read_to_judge` meets its contract: what `read` answers, refused where the layout has no script. Assumes nothing.
-use mathlib.Core.Path.{refl, sym, ◌∙◌}
-use Rattle.policy.proofs.Tests.{fails, passes}
+use mathlib.Core.Path.{◌≡◌, ◌∙◌}
+use Rattle.std.proofs.Common.{rules, Err}
 use Rattle.reader.proofs.ToJudge.{refused_too, no_script, has_script}
 use Rattle.reader.proofs.file.read_to_judge.Goals as goal
 
-pub returns-then-not-layout : goal.returns-then-not-layout
-returns-then-not-layout c = no_script c.args.file.now _ (sym c.in-Accepted.is ∙ c.read-found.ensures) (fails refl c.if-not-layout.true)
+pub returns-in_err-layout : goal.returns-in_err-layout
+returns-in_err-layout c =
+    let away : c.from_residual.result ≡ Err c.in_err-layout.field-0.0 = search rules in
+    away ∙ refused_too c.args.file.now _ c.in_err-layout.ensures
 
-pub returns-else-not-layout : goal.returns-else-not-layout
-returns-else-not-layout c = has_script c.args.file.now _ (sym c.in-Accepted.is ∙ c.read-found.ensures) (passes refl c.if-not-layout.false)
+pub returns-then-is_none : goal.returns-then-is_none
+returns-then-is_none c = no_script c.args.file.now c.in_ok-layout.layout c.in_ok-layout.ensures c.if-is_none.ensures
 
-pub returns-in_default : goal.returns-in_default
-returns-in_default c =
-    c.in_default.is
-    ∙ refused_too c.args.file.now _ (sym c.in_default.is ∙ c.read-found.ensures)
+pub returns : goal.returns
+returns c = has_script c.args.file.now c.in_ok-layout.layout c.in_ok-layout.ensures c.if-is_none.ensures

@@ -5,4 +5,4 @@ use Rattle.reader.proofs.file.value.Goals as goal
 pub returns : goal.returns
 returns c =
     let a = c.args in
-    cut_least a.span a.file.now c.least-start.result c.least-size.result c.least-start.ensures c.least-size.ensures
+    cut_least a.span a.file.now c.min-start.result c.min-size.result c.min-start.ensures c.min-size.ensures

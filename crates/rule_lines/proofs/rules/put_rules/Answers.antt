@@ -1,5 +1,5 @@
 -- `put_rules` meets its contract. The loop's invariant: the lines of the first k rules stand from the start on, and with those that are left they are
--- all lines. The measure is how many rules are left. Assumes nothing.
+-- all lines. Assumes nothing.
 use Prim.Native.Nat.{◌+◌, ◌*◌, ◌-◌, ◌≤◌}
 use native.Mathlib.Nat.{add-zero}
 use native.Mathlib.Omega.{arith}
@@ -21,8 +21,7 @@ fits c =
 
 pub loop-k-init : goal.loop-k-init
 loop-k-init c =
-    let args = c.args in
-    (refl, no_lines rules_text 0 (rules args.file.now args.count) args.place.now args.at)
+    let args = c.args in no_lines rules_text 0 (rules args.file.now args.count) args.place.now args.at
 
 pub overflow_mul-start : goal.overflow_mul-start
 overflow_mul-start c = omega (arith, fits c)
@@ -43,14 +42,12 @@ loop-k-preserved c =
     let count = c.args.count in
     let k = c.loop-k.k in
     let start-at = k * 30 + 3 in
-    let rule = rule_of (take (start-at + 27 - start-at) (drop start-at file)) in (
-      omega arith,
-      one_line rules_text 0 (rules file count) k c.loop-k.invariant.1 rule (rule_text k rule)
-          (next_rule count file c.requires k c.loop-k-test.true) (rw add-zero) c.put_rule-next.ensures,
-    )
+    let rule = rule_of (take (start-at + 27 - start-at) (drop start-at file)) in
+    one_line rules_text 0 (rules file count) k c.loop-k.invariant rule (rule_text k rule) (next_rule count file c.requires k c.loop-k-test.true)
+    (rw add-zero) c.put_rule-next.ensures
 
 pub returns : goal.returns
 unfolding rules_text
 returns c =
-    all_lines rules_text 0 (rules c.args.file.now c.args.count) c.loop-k.k c.loop-k.invariant.1
+    all_lines rules_text 0 (rules c.args.file.now c.args.count) c.loop-k.k c.loop-k.invariant
     (omega (arith, first_count 3 c.args.count c.args.file.now c.requires, c.loop-k-test.false)) refl

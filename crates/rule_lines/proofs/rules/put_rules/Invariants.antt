@@ -1,7 +1,6 @@
-use Prim.Native.Nat.{ℕ, ◌-◌}
-use mathlib.Core.Path.{◌≡◌}
+use Prim.Native.Nat.{ℕ}
 use mathlib.Core.List.{List}
-use lib.ListN.{length, take}
+use lib.ListN.{take}
 use Rattle.policy.specs.Rule.{Rule}
 use Rattle.deployment.specs.Catalogue.{catalogue_of}
 use Rattle.lines.proofs.Lines.{Lines}
@@ -14,7 +13,4 @@ rules file count = take count (catalogue_of 3 file)
 
 abbrev pub invariant-loop-k : goal.invariant-loop-k
 invariant-loop-k l =
-    (length l.place ≡ length l.initial.place) × Lines rules_text 0 (rules l.file l.count) (rules_text 0 (rules l.file l.count)) l.initial.place l.at l.place l.next l.k
-
-abbrev pub decreases-loop-k : goal.decreases-loop-k
-decreases-loop-k l = l.count - l.k
+    Lines rules_text 0 (rules l.file l.count) (rules_text 0 (rules l.file l.count)) l.initial.place l.at l.place l.next l.k

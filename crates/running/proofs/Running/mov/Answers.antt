@@ -61,11 +61,11 @@ returns c =
 pub overflow_sub-r : goal.overflow_sub-r
 overflow_sub-r c = (from (goal.at.overflow_sub-r c).Else-not-in_range-2).0
 
-pub offset_bounds-old-i : goal.offset_bounds-old-i
-offset_bounds-old-i c = record { fits = omega (arith, from (goal.at.offset_bounds-old-i c).Else-not-in_range-2) }
+pub offset_bounds-self-i : goal.offset_bounds-self-i
+offset_bounds-self-i c = record { fits = omega (arith, from (goal.at.offset_bounds-self-i c).Else-not-in_range-2) }
 
-pub bounds-old-i : goal.bounds-old-i
-bounds-old-i c = omega (arith, from (goal.at.bounds-old-i c).Else-not-in_range-2)
+pub bounds-self-i : goal.bounds-self-i
+bounds-self-i c = omega (arith, from (goal.at.bounds-self-i c).Else-not-in_range-2)
 
 pub overflow_sub-i : goal.overflow_sub-i
 overflow_sub-i c = (from (goal.at.overflow_sub-i c).Else-not-in_range-2).0

@@ -12,7 +12,7 @@ use Rattle.running.specs.Running.{view}
 use Rattle.running.proofs.Edits.{view_count, view_fits}
 use Rattle.running.proofs.Names.{all_wider, names_outside, names_twice, names_once}
 use Rattle.running.proofs.Running.naming.Goals as goal
-use Rattle.running.proofs.Running.naming.Goals.{After-count-len, After-outside, After-twice, Else-outside, Joined-size-lt-MOST_RULES, then-size-lt-MOST_RULES, else-size-lt-MOST_RULES}
+use Rattle.running.proofs.Running.naming.Goals.{After-count-len, After-outside, After-twice, Else-outside}
 
 fits : (c : After-count-len) → c.count-len.result ≤ 1024
 fits c =
@@ -21,18 +21,12 @@ fits c =
 pub outside-requires : goal.outside-requires
 outside-requires c = fits (goal.at.outside-requires c).After-count-len
 
-top_is : (c : Joined-size-lt-MOST_RULES) → c.if-size-lt-MOST_RULES.top ≡ min c.args.size 1024
-top_is c = elim c.if-size-lt-MOST_RULES.branch [
-  | then-size-lt-MOST_RULES w ↦ omega (arith, w.if-size-lt-MOST_RULES.true, w.top-is)
-  | else-size-lt-MOST_RULES w ↦ omega (arith, w.if-size-lt-MOST_RULES.false, w.top-is)
-]
-
 -- what the first test says, of the list that is shown
 outside_is : (c : After-outside) →
     c.outside.result ≡ not (all (λ r. ltb r (min c.args.size 1024)) (view c.args.self))
 outside_is c =
     c.outside.ensures
-    ∙ ap₂ (λ (top : ℕ) (l : List ℕ). not (all (λ r. ltb r top) l)) (top_is (goal.at.After-outside c).Joined-size-lt-MOST_RULES) (view_count c.args.self _ c.count-len.ensures)
+    ∙ ap₂ (λ (top : ℕ) (l : List ℕ). not (all (λ r. ltb r top) l)) c.min.ensures (view_count c.args.self _ c.count-len.ensures)
 
 inside : (c : Else-outside) → all (λ r. ltb r (min c.args.size 1024)) (view c.args.self) ≡ true
 inside c = not-false _ (sym (outside_is (goal.at.Else-outside c).After-outside) ∙ c.if-outside.false)

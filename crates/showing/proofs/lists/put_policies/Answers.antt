@@ -10,5 +10,5 @@ pub returns : goal.returns
 unfolding text policies_text
 returns c =
     let args = c.args in
-    puts_joined (text "initial") (list_text (numbers_of (value_at args.initial args.file.now))) c.put_list-next.ensures
-    c.put_list.ensures
+    puts_joined (text "initial") (list_text (numbers_of (value_at args.initial args.file.now))) (rw c.value.ensures at c.put_list-next.ensures)
+    (rw c.value-2.ensures at c.put_list.ensures)

@@ -1,13 +1,12 @@
 -- `keep_if_there` meets its contract: a keep list that is there is tested, and an absent one passes. Assumes nothing.
-use Rattle.deployment.specs.FieldValues.{keep_value}
+use Rattle.deployment.specs.FieldValues.{lent, keep_value}
 use Rattle.catalogue.specs.Answers.{checking}
-use Rattle.values.specs.Answers.{given}
 use Rattle.values.proofs.lists.keep_if_there.Goals as goal
 
-pub returns-then-is : goal.returns-then-is
-unfolding given
-returns-then-is c = rw c.if-is.true c.keep_checked.ensures
+pub returns-in-Some : goal.returns-in-Some
+unfolding lent
+returns-in-Some c = rw c.in-Some.is c.keep_checked.ensures
 
-pub returns-else-is : goal.returns-else-is
-unfolding checking given keep_value
-returns-else-is c = rw c.if-is.false
+pub returns-in-None : goal.returns-in-None
+unfolding checking lent keep_value
+returns-in-None c = rw c.in-None.is

@@ -1,9 +1,0 @@
--- `least` meets its contract. Assumes nothing.
-use native.Mathlib.Omega.{arith}
-use Rattle.reader.proofs.file.least.Goals as goal
-
-pub returns-then-a-b : goal.returns-then-a-b
-returns-then-a-b c = omega arith
-
-pub returns-else-a-b : goal.returns-else-a-b
-returns-else-a-b c = omega arith
