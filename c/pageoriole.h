@@ -27,7 +27,7 @@
  *
  * Stack. A call touches at most PAGEORIOLE_STACK bytes, and those that write a text of a plan of type 2 (pageoriole_plan_text,
  * pageoriole_plan_two_text) at most PAGEORIOLE_STACK_TEXT. This is measured and not proved: c/stack.c runs every function on the largest inputs
- * and fails above these. It finds 46,568 bytes (pageoriole_replay_file), 44,760 for pageoriole_plan_text and 44,520 for pageoriole_plan_two_text.
+ * and fails above these. It finds 40,392 bytes (pageoriole_replay_file), 44,984 for pageoriole_plan_text and 44,632 for pageoriole_plan_two_text.
  * Before the library was built by today's compiler it was 30,248, 35,592 and 35,336, and the limits 32,768 and 36,864.
  */
 #ifndef PAGEORIOLE_H
