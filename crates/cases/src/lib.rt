@@ -3,7 +3,9 @@
 
 #![tactic(auto)]
 
-ghost use Rattle.std.specs.Prelude.{◌≡◌, ◌≤◌, ◌-◌, length, take};
+ghost use Rattle.std.specs.Prelude.{◌≡◌, ◌≤◌, ◌-◌, cond, length, take};
+ghost use Rattle.std.proofs.Math.Option.{none, some};
+ghost use Rattle.deployment.specs.FieldValues.{lent};
 
 use deployment::Refusal;
 use format::two;
@@ -128,7 +130,9 @@ pub fn bytes_at<'a>(row: &'a [u8], at: usize) -> &'a [u8] {
 }
 
 // Bytes that may be absent, as a case has them: with a flag beside them.
-pub fn given(is: bool, bytes: &[u8]) -> Option<&[u8]> {
+pub fn given(is: bool, bytes: &[u8]) -> Option<&[u8]>
+    ensures { lent result ≡ cond is (some bytes.now) none }
+{
     if is { Some(bytes) } else { None }
 }
 
@@ -181,7 +185,12 @@ pub fn filled(byte: u8) -> [u8; 65536]
 }
 
 fn is_filled(room: &[u8], byte: u8) -> bool {
-    room.iter().all(|b| *b == byte)
+    for b in room {
+        if *b != byte {
+            return false;
+        }
+    }
+    true
 }
 
 // Prints whether the bytes of a room are as they were.

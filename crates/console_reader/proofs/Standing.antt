@@ -1,25 +1,44 @@
--- A word in a text: the library's test is the definition's, and the text has room for a word that stands in it. Assumes nothing.
-use Prim.Native.Nat.{ℕ, ◌+◌, ◌-◌, ◌≤◌}
+-- A word in a text, compared from a position on byte by byte: each law is a step of the comparison. Assumes nothing.
+use Prim.Native.Nat.{ℕ, suc, ◌+◌, ◌-◌, ◌≤◌, ◌<◌}
 use native.Mathlib.Omega.{arith}
-use mathlib.Core.Path.{◌≡◌, refl}
-use mathlib.Core.Bool.{true}
+use mathlib.Core.Path.{◌≡◌, refl, sym, ◌∙◌}
+use mathlib.Core.Bool.{true, false}
 use mathlib.Core.List.{List, [], ◌∷◌}
 use lib.Dec.{eqb}
-use lib.ListN.{length, take, drop, length-drop}
-use Rattle.std.proofs.lemmas.List.{take_all}
-use Rattle.std.specs.Cmp.Lexicographic.{pointwise}
-use Rattle.policy.proofs.Tests.{never, and_both}
+use lib.ListN.{length, drop, get_or, length-drop, drop_of_length-le}
+use lib.Seq.{drop-cons}
+use borrow.Author.Tests.{eq-eqb, ne_eqb}
+use Rattle.policy.proofs.Tests.{never, falsely, and_both}
 use Rattle.console_text.specs.Reading.{starts}
 
-starts_is : (word s : List ℕ) → pointwise eqb word (take (length word) s) ≡ starts word s
-unfolding starts
-starts_is [] s = refl
-starts_is (w ∷ word) [] = refl
-starts_is (w ∷ word) (b ∷ s) = rw (starts_is word s)
+-- no byte is compared yet
+pub from_start : (word s : List ℕ) (at : ℕ) → starts word (drop at s) ≡ starts (drop 0 word) (drop (at + 0) s)
+from_start word s at = let here : at + 0 ≡ at = omega arith in rw here refl
 
--- the text from a position on, as a slice
-pub stands_is : (word s : List ℕ) (at : ℕ) → pointwise eqb word (take (length word) (take (length s - at) (drop at s))) ≡ starts word (drop at s)
-stands_is word s at = rw (take_all (length s - at) (drop at s) (omega (arith, length-drop at s))) (starts_is word (drop at s))
+-- the byte at this place is the word's, or not
+one_byte : (word s : List ℕ) (at k : ℕ) → k < length word → at + k < length s
+    → starts (drop k word) (drop (at + k) s) ≡ starts (get_or word k 0 ∷ drop (k + 1) word) (get_or s (at + k) 0 ∷ drop (at + (k + 1)) s)
+one_byte word s at k in-word in-text =
+    let next : suc k ≡ k + 1 = omega arith in
+    let further : suc (at + k) ≡ at + (k + 1) = omega arith in
+    rw (drop-cons word k 0 in-word, drop-cons s (at + k) 0 in-text, next, further) refl
+
+pub same_byte : (word s : List ℕ) (at k : ℕ) → k < length word → at + k < length s → get_or s (at + k) 0 ≡ get_or word k 0
+    → starts (drop k word) (drop (at + k) s) ≡ starts (drop (k + 1) word) (drop (at + (k + 1)) s)
+unfolding starts
+same_byte word s at k in-word in-text same =
+    one_byte word s at k in-word in-text ∙ rw (eq-eqb (get_or word k 0) (get_or s (at + k) 0) (sym same)) refl
+
+pub other_byte : (word s : List ℕ) (at k : ℕ) → k < length word → at + k < length s → (get_or s (at + k) 0 ≡ get_or word k 0 → ⊥)
+    → starts (drop k word) (drop (at + k) s) ≡ false
+unfolding starts
+other_byte word s at k in-word in-text differ =
+    one_byte word s at k in-word in-text ∙ rw (ne_eqb (get_or word k 0) (get_or s (at + k) 0) (λ e. differ (sym e))) refl
+
+-- no byte of the word is left
+pub word_ends : (word s : List ℕ) (k : ℕ) → length word ≤ k → starts (drop k word) s ≡ true
+unfolding starts
+word_ends word s k ends = rw (drop_of_length-le word ends) refl
 
 -- a word that stands in a text is no longer than it
 starts_short : (word s : List ℕ) → starts word s ≡ true → length word ≤ length s
@@ -30,3 +49,6 @@ starts_short (w ∷ word) (b ∷ s) e = let rest = starts_short word s (and_both
 
 pub fits : (word s : List ℕ) (at : ℕ) → at ≤ length s → starts word (drop at s) ≡ true → at + length word ≤ length s
 fits word s at inside e = let short = starts_short word (drop at s) e in omega (arith, length-drop at s)
+
+pub too_short : (word s : List ℕ) (at : ℕ) → at ≤ length s → length s - at < length word → starts word (drop at s) ≡ false
+too_short word s at inside short = falsely (λ e. let long = fits word s at inside e in omega arith)

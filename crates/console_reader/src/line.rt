@@ -27,7 +27,15 @@ fn stands(text: &[u8], at: usize, word: &[u8]) -> bool
     requires { at ≤ length text.now }
     ensures { result ≡ starts word.now (drop at text.now) }
 {
-    text[at..].starts_with(word)
+    if text.len() - at < word.len() {
+        return false;
+    }
+    for k in 0..word.len() {
+        if text[at + k] != word[k] {
+            return false;
+        }
+    }
+    true
 }
 
 // The second number behind its word, if there is one.

@@ -13,7 +13,7 @@ use Rattle.policy.specs.Judge.{verdict}
 use Rattle.policy.specs.declared.Verdict.{Verdict}
 use Rattle.deployment.specs.Values.{Script, numbers_of, numbers_bytes, script_of, script_bytes}
 use Rattle.deployment.specs.Contents.{Contents}
-use Rattle.deployment.specs.File.{Reading, accepted, refused, read_file, read_to_judge, needs_script, file_of}
+use Rattle.deployment.specs.File.{Reading, accepted, refused, read_to_judge, needs_script, file_of}
 use Rattle.deployment.specs.FieldValues.{FieldValues, values_read, read_values, Left, left_alone, Writing, writing}
 use Rattle.deployment.specs.Properties.{AreBytes, Scripted, Valid}
 use Rattle.deployment.specs.Claims.{values_of, AreValues}

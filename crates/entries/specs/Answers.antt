@@ -8,7 +8,7 @@ use Rattle.policy.specs.Replay.{Replayed, replay}
 use Rattle.policy.specs.Judge.{verdict}
 use Rattle.policy.specs.declared.Decision.{Decision}
 use Rattle.policy.specs.declared.Flow.{Flow}
-use Rattle.deployment.specs.Checked.{Checked, good, bad, ◌>>=◌}
+use Rattle.deployment.specs.Checked.{Checked, good, ◌>>=◌}
 use Rattle.deployment.specs.Contents.{Contents, initial_policy, target_policy}
 use Rattle.deployment.specs.File.{Reading, file_of}
 use Rattle.deployment.specs.FieldValues.{

@@ -45,14 +45,17 @@ fn rules_of(count: usize) -> Span
 pub fn decide(file: &[u8], of_target: bool, flow: Flow) -> Result<Decision, Refusal>
     ensures { result ≡ decided_reading of_target flow (read_file file.now) }
 {
-    let layout = read(file)?; // A file that is turned away decides no flow.
-    Ok(decided(
-        value(file, rules_of(layout.rules)),
-        HEAD_BYTES as u8,
-        value(file, asked(layout, of_target)),
-        default_of(layout.default.is_some()),
-        flow,
-    ))
+    // Kept a match: the edit `refused_file_denies` changes the answer of its second arm, and `?` has none that could be changed.
+    match read(file) {
+        Ok(layout) => Ok(decided(
+            value(file, rules_of(layout.rules)),
+            HEAD_BYTES as u8,
+            value(file, asked(layout, of_target)),
+            default_of(layout.default.is_some()),
+            flow,
+        )),
+        Err(refusal) => Err(refusal),
+    }
 }
 
 // Decides flows by a policy of the file, read once: 13 bytes a flow, and three of the first bytes of `place` for its action and place.

@@ -159,8 +159,13 @@ pub fn plan_two(values: &Values<'_>, place: &mut [u8]) -> Result<Plan, Refusal>
 pub fn judge(values: &Values<'_>) -> Result<Verdict, Refusal>
     ensures { result ≡ judged_reading (needs_script 0 (read_values values.now)) }
 {
-    checked(values)?; // Values that are turned away are not judged.
-    let script = values.script.ok_or(Why::NoScript)?;
-    let size = values.rules.len() / RULE_BYTES;
-    Ok(verdict_of(size, values.initial, values.target, script))
+    // Kept a match: the edit `judge_refused_at_one` changes the answer of its second arm, and `?` has none that could be changed.
+    match checked(values) {
+        Ok(()) => {
+            let script = values.script.ok_or(Why::NoScript)?;
+            let size = values.rules.len() / RULE_BYTES;
+            Ok(verdict_of(size, values.initial, values.target, script))
+        }
+        Err(why) => Err(why.into()),
+    }
 }

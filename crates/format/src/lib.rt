@@ -60,7 +60,10 @@ pub fn store(place: &mut [u8], at: usize, value: &[u8])
         return;
     }
     let count = value.len().min(place.len() - at);
-    place[at..at + count].copy_from_slice(&value[..count]);
+    // Byte by byte: `copy_from_slice` here made the library for C need `memmove` from outside.
+    for k in 0..count {
+        place[at + k] = value[k];
+    }
 }
 
 // "All numbers are big-endian": the number that the bytes are, of which there are four at most.

@@ -6,14 +6,13 @@ use Rattle.std.proofs.Common.{Ok, Err, Continue, Break}
 use Rattle.streams.specs.Reading.{next_of}
 use lib.IntN.{pos, negsuc}
 use borrow.Author.Tests.{ltb-true}
-use Rattle.streams.specs.Claims.{FailedAsRead, by_number, FailedBelowZero, EndedAtZero, CameAsCounted, UnreadableAsRead, UnreadableBelowZero}
+use Rattle.streams.specs.Claims.{FailedAsRead, FailedBelowZero, EndedAtZero, CameAsCounted, UnreadableAsRead, UnreadableBelowZero}
 
 pub failed_as_read : FailedAsRead
 failed_as_read (Ok k) most = (λ e. cc, λ e. cc)
 failed_as_read (Err _) most = (λ e. refl, λ e. refl)
 
 pub failed_below_zero : FailedBelowZero
-unfolding by_number
 failed_below_zero (pos k) most = (λ e. cc, λ h. absurd (omega (arith, ltb-true k 0 h)))
 failed_below_zero (negsuc k) most = (λ e. refl, λ e. refl)
 
@@ -41,6 +40,5 @@ unreadable_as_read (Ok k) most done = (λ e. absurd (never_unreadable (min k mos
 unreadable_as_read (Err _) most done = (λ e. refl, λ e. refl)
 
 pub unreadable_below_zero : UnreadableBelowZero
-unfolding by_number
 unreadable_below_zero (pos k) most done = (λ e. absurd (never_unreadable (min k most) done e), λ h. absurd (omega (arith, ltb-true k 0 h)))
 unreadable_below_zero (negsuc k) most done = (λ e. refl, λ e. refl)

@@ -1,19 +1,15 @@
 -- What is claimed of reading. Assumes nothing.
-use Rattle.std.specs.Prelude.{ℕ, ◌<◌, ◌≤◌, ◌≡◌, true, ◌↔◌, ℤ, pos, negsuc, Result, Ok, Err}
+use Rattle.std.specs.Prelude.{ℕ, ◌<◌, ◌≤◌, ◌≡◌, true, ◌↔◌, ℤ, pos, Result, Ok, Err}
 use Rattle.std.specs.Int.Signed.{lt_z}
 use Rattle.std.specs.declared.ops.ControlFlow.TheVariants.{Continue, Break}
 use Rattle.streams.specs.declared.Unreadable.{Unreadable}
-use Rattle.streams.specs.Reading.{piece_of, next_of}
+use Rattle.streams.specs.Reading.{by_number, piece_of, next_of}
 
 -- a piece has failed exactly when its read has
 abbrev pub FailedAsRead : Type 0
 FailedAsRead = (answer : Result ℕ Unreadable) (most : ℕ) → (piece_of answer most ≡ Err record {}) ↔ (answer ≡ Err record {})
 
--- the same where a read answers by a number, as the system's reads do: how many bytes came, or below 0 where it failed
-unfoldable pub by_number : ℤ → Result ℕ Unreadable
-by_number (pos k) = Ok k
-by_number (negsuc k) = Err record {}
-
+-- the same of the number that the system's reads answer by
 abbrev pub FailedBelowZero : Type 0
 FailedBelowZero = (answer : ℤ) (most : ℕ) → (piece_of (by_number answer) most ≡ Err record {}) ↔ (lt_z answer (pos 0) ≡ true)
 

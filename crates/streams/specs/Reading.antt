@@ -1,8 +1,13 @@
 -- What a read tells of the input, and what can be said of the whole: no contract says which bytes come in. Assumes nothing.
-use Rattle.std.specs.Prelude.{ℕ, zero, suc, ◌+◌, ◌<◌, ◌≤◌, min, Result, Ok, Err}
+use Rattle.std.specs.Prelude.{ℕ, zero, suc, ◌+◌, ◌<◌, ◌≤◌, min, ℤ, pos, negsuc, Result, Ok, Err}
 use Rattle.std.specs.declared.ops.ControlFlow.{ControlFlow}
 use Rattle.std.specs.declared.ops.ControlFlow.TheVariants.{Continue, Break}
 use Rattle.streams.specs.declared.Unreadable.{Unreadable}
+
+-- the answer of a read by its number, as the system's reads answer: how many bytes came, or below 0 where it failed
+abbrev pub by_number : ℤ → Result ℕ Unreadable
+by_number (pos k) = Ok k
+by_number (negsuc k) = Err record {}
 
 -- a read that is lent `most` bytes brings as many as it answers, none at the end of the input, or fails
 abbrev pub piece_of : Result ℕ Unreadable → ℕ → Result ℕ Unreadable

@@ -2,8 +2,8 @@
 
 #![tactic(auto)]
 
-ghost use Rattle.std.specs.Prelude.{◌≡◌, length, take, IfOk, OnErr};
-ghost use Rattle.streams.specs.Reading.{Fitting, Within, piece_of, next_of};
+ghost use Rattle.std.specs.Prelude.{◌≡◌, length, take, pos, negsuc, IfOk, OnErr};
+ghost use Rattle.streams.specs.Reading.{by_number, Fitting, Within, piece_of, next_of};
 
 use deployment::Refusal;
 use lines::outcomes::put_refused;
@@ -23,8 +23,8 @@ pub struct Unreadable;
 
 // The answer of a read: how many bytes came, or that it failed (also where a signal interrupts it).
 fn answer_of(read: io::Result<usize>) -> Result<usize, Unreadable>
-    ensures came { IfOk read (λ n. result ≡ Ok n) }
-    ensures failed { OnErr read (result ≡ Err record {}) }
+    ensures came { IfOk read (λ n. result ≡ by_number (pos n)) }
+    ensures failed { OnErr read (result ≡ by_number (negsuc 0)) }
 {
     read.map_err(|_| Unreadable)
 }
