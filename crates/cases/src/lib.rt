@@ -174,7 +174,11 @@ fn summed(sum: u32, byte: u8, wide: bool) -> u32 {
 
 // The checksum of bytes: in four bytes where it is to be wide, else in two.
 pub fn checksum(bytes: &[u8], wide: bool) -> u32 {
-    bytes.iter().fold(1, |sum, byte| summed(sum, *byte, wide))
+    let mut sum = 1;
+    for byte in bytes {
+        sum = summed(sum, *byte, wide);
+    }
+    sum
 }
 
 // A room for any answer, all of whose bytes are the same.
