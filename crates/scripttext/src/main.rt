@@ -18,15 +18,6 @@ fn text_of(file: &[u8], maker: Maker, what: What, place: &mut [u8]) -> Result<us
     }
 }
 
-// The answer to the file on standard input.
-fn answer(rt: &HostRuntime, maker: Maker, what: What) {
-    let mut file = [0u8; MOST_READ];
-    let mut place = [0u8; MOST_TEXT];
-    answer_input(rt, &mut file, &mut place, |file, place| {
-        text_of(file, maker, what, place)
-    });
-}
-
 fn main(rt: HostRuntime) {
     let (Some(maker), Some(what)) = (called_maker(&rt), called_what(&rt)) else {
         print_whole(
@@ -35,5 +26,9 @@ fn main(rt: HostRuntime) {
         );
         return;
     };
-    answer(&rt, maker, what);
+    let mut file = [0u8; MOST_READ];
+    let mut place = [0u8; MOST_TEXT];
+    answer_input(&rt, &mut file, &mut place, |file, place| {
+        text_of(file, maker, what, place)
+    });
 }

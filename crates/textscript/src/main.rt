@@ -18,19 +18,14 @@ fn called_type<R: Env>(rt: &R) -> Option<u8> {
     }
 }
 
-// The answer to the text on standard input.
-fn answer(rt: &HostRuntime, maker: Maker, kind: u8) {
-    let mut text = [0u8; MOST_READ];
-    let mut place = [0u8; MOST_FIELD];
-    answer_input(rt, &mut text, &mut place, |text, place| {
-        text_script(text, kind, maker, place)
-    });
-}
-
 fn main(rt: HostRuntime) {
     let (Some(maker), Some(kind)) = (called_maker(&rt), called_type(&rt)) else {
         print_whole(&rt, b"usage: textscript MAKER TYPE: A or B, then 1 or 2\n");
         return;
     };
-    answer(&rt, maker, kind);
+    let mut text = [0u8; MOST_READ];
+    let mut place = [0u8; MOST_FIELD];
+    answer_input(&rt, &mut text, &mut place, |text, place| {
+        text_script(text, kind, maker, place)
+    });
 }
