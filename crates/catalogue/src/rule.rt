@@ -69,7 +69,9 @@ fn records(rules: &[u8], skip: u8, most: usize) -> usize
     most.min(rules.len() / (skip as usize + RULE_BYTES))
 }
 
-// 6: whether one of the first `count` rules equals the given one.
+// 6: whether one of the first `count` rules equals the given one. Not inlined: few rules are suspects, and within its callers it made the
+// test of every rule slower.
+#[inline(never)]
 fn is_known(rules: &[u8], skip: u8, count: usize, rule: &[u8]) -> bool
     requires { (length rule.now ≡ 27) × (count ≤ record_count skip rules.now) }
     ensures { result ≡ known (rule_of rule.now) (take count (catalogue_of skip rules.now)) }
